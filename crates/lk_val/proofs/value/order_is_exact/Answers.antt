@@ -1,0 +1,8 @@
+use Rattle.lk_val.specs.ValueOrder.{values_ordered, tuples_ordered}
+use Rattle.lk_val.proofs.value.order_is_exact.Goals as goal
+
+pub returns-clause-values : goal.returns-clause-values
+returns-clause-values c = values_ordered
+
+pub returns-clause-tuples : goal.returns-clause-tuples
+returns-clause-tuples c = tuples_ordered

@@ -1,0 +1,27 @@
+//! Values of the tables: texts, numbers and their order, and the few types that every crate above names.
+#![tactic(auto)]
+
+mod bytes;
+mod cell;
+mod distinct;
+mod items;
+mod memory;
+mod num;
+mod sets;
+mod text;
+mod tuple;
+mod value;
+
+pub use bytes::Bytes;
+pub use cell::{Cell, Frac};
+pub use distinct::do_differ;
+pub use items::Items;
+pub use memory::NoMemory;
+pub use num::{Num, NumFault, print_count};
+pub use sets::{set_ascends, set_has_its_list};
+pub use text::{Text, are_different, as_text, is_among, is_text};
+pub use tuple::Tuple;
+pub use value::{Value, cmp_value, order_is_exact};
+
+#[cfg(test)]
+mod tests;
