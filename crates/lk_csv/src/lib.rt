@@ -1,0 +1,13 @@
+//! Records of comma-separated fields: read from a text, and written as a line. (RFC 4180)
+#![tactic(auto)]
+
+mod laws;
+mod reading;
+mod writing;
+
+pub use laws::written_records_read_back;
+pub use reading::read_records;
+pub use writing::write_record;
+
+#[cfg(test)]
+mod tests;
