@@ -1,0 +1,3 @@
+pub mod GroupingLaws
+pub mod MeasureLaws
+pub mod AnswerLaws

@@ -1,0 +1,7 @@
+pub mod Rows
+pub mod Measures
+pub mod Answers
+pub mod Grouping
+pub mod Calendar
+pub mod Printing
+pub mod Examples
