@@ -1,0 +1,6 @@
+-- A read that a signal cut off took nothing.
+use Rattle.std.specs.Io.KnownBytes.{Keeps}
+use Rattle.lk_io.proofs.in_source.read_once.Given as goal
+
+abbrev pub invariant-loop : goal.invariant-loop
+invariant-loop g l = Keeps (g.R.Read.remaining l.initial.reader) (g.R.Read.remaining l.reader)

@@ -1,0 +1,6 @@
+-- A write that a signal cut off added nothing.
+use Rattle.std.specs.Io.KnownBytes.{Keeps}
+use Rattle.lk_io.proofs.out_sink.write_once.Given as goal
+
+abbrev pub invariant-loop : goal.invariant-loop
+invariant-loop g l = Keeps (g.W.Write.contents l.initial.writer) (g.W.Write.contents l.writer)

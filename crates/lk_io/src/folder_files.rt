@@ -1,0 +1,339 @@
+ghost use Rattle.std.specs.Prelude.{◌≡◌, ◌≢◌, ◌≤◌, None, IfOk, IfSome, IsErrOf, length, vec_len};
+ghost use Rattle.std.specs.Cmp.Lexicographic.{slice_cmp};
+ghost use Rattle.std.specs.IoError.{error_kind};
+ghost use Rattle.std.specs.List.Sorted.{IsSorted};
+ghost use Rattle.std.specs.Ordering.{nat_cmp};
+ghost use Rattle.lk_io.specs.Causes.{Rose, HasFileCause, next_count};
+ghost use Rattle.lk_io.specs.Folder.{path_in};
+ghost use Rattle.lk_io.specs.System.{folder_runtime, folder_path, folder_faults};
+
+use crate::faults::FileFault;
+use crate::files::{FILE_LIMIT, Files};
+use lk_val::{Bytes, Items, Text};
+use std::alloc::{AllocError, Global};
+use std::io::{ErrorKind, Read};
+use std::{fs, io, rt};
+
+/// A folder of the system and its subfolders. It tells nothing, and follows no symbolic link below the
+/// folder. Symbolic links, sockets and the like are no files of it; a name that is not UTF-8 is a fault.
+#[derive(Drop)]
+pub struct FolderFiles<R> {
+    rt: R,
+    folder: Text,
+    faults: u64,
+}
+
+impl<R> FolderFiles<R> {
+    /// The folder at this path, which is looked at only when it is listed or read.
+    pub fn at(rt: R, folder: Text) -> FolderFiles<R>
+        ensures runtime { folder_runtime result ≡ rt }
+        ensures path { folder_path result ≡ folder }
+        ensures faults { folder_faults result ≡ 0 }
+    {
+        FolderFiles {
+            rt,
+            folder,
+            faults: 0,
+        }
+    }
+
+    /// How many calls failed.
+    pub fn faults(&self) -> u64
+        ensures { result ≡ folder_faults self.now }
+    {
+        self.faults
+    }
+
+    // What an error of the system is to the caller. All but want of memory are counted as faults.
+    fn fault_of(&mut self, error: io::Error) -> FileFault
+        ensures later { folder_faults self.old ≤ folder_faults self.new }
+        ensures rose { result ≡ FileFault.Failed →
+            Rose (folder_faults self.old) (folder_faults self.new) }
+        ensures counted { result ≡ FileFault.Failed →
+            folder_faults self.new ≡ next_count (folder_faults self.old) }
+        ensures kept { result ≢ FileFault.Failed → folder_faults self.new ≡ folder_faults self.old }
+        ensures memory { error_kind error ≡ ErrorKind.OutOfMemory →
+            result ≡ FileFault.NoMemory }
+        ensures fault { error_kind error ≢ ErrorKind.OutOfMemory → result ≡ FileFault.Failed }
+        ensures not_big { result ≡ FileFault.TooBig → ⊥ }
+    {
+        if error.kind() == ErrorKind::OutOfMemory {
+            return FileFault::NoMemory;
+        }
+        self.faults = self.faults.saturating_add(1);
+        FileFault::Failed
+    }
+}
+
+// The path of a name in a folder; the name itself where the folder's path is empty.
+fn joined(alloc: Global, folder: &str, name: &str) -> Result<Text, AllocError>
+    ensures { IfOk result (λ path. path ≡ path_in folder.now name.now) }
+{
+    let mut path = String::from_str(alloc, folder)?;
+    if !folder.is_empty() {
+        path.push('/')?;
+    }
+    path.push_str(name)?;
+    Ok(Text::from_string(path))
+}
+
+// What a walk over the folder has found, all relative to it.
+#[derive(Drop)]
+struct Walk {
+    files: Vec<Text>,
+    // The folders that it has yet to visit.
+    folders: Vec<Text>,
+}
+
+impl Walk {
+    // Notes the files and the folders of one folder.
+    fn visit<R: rt::Files + AllocGlobal + Clone + Drop>(
+        &mut self,
+        rt: &R,
+        root: &str,
+        folder: &Text,
+    ) -> io::Result<()> {
+        let place = joined(rt.alloc(), root, folder.as_str())?;
+        for entry in fs::read_dir(rt, place.as_str())? {
+            let entry = entry?;
+            let path = joined(rt.alloc(), folder.as_str(), entry.file_name())?;
+            let kind = entry.file_type()?;
+            if kind.is_dir() {
+                self.folders.push(path)?;
+            } else if kind.is_file() {
+                self.files.push(path)?;
+            }
+        }
+        Ok(())
+    }
+}
+
+// The path of every file below the root, relative to it and sorted.
+fn paths_below<R: rt::Files + AllocGlobal + Clone + Drop>(
+    rt: &R,
+    alloc: Global,
+    root: &str,
+) -> io::Result<Vec<Text>>
+    ensures { IfOk result (λ paths. IsSorted (slice_cmp nat_cmp) paths.items) }
+{
+    let mut walk = Walk {
+        files: Vec::new(alloc),
+        folders: vec![in alloc; Text::new(alloc)]?,
+    };
+    for _ in 0..u64::MAX {
+        let Some(folder) = walk.folders.pop() else {
+            walk.files.sort()?;
+            return Ok(walk.files);
+        };
+        walk.visit(rt, root, &folder)?;
+    }
+    // A loop must be seen to end, so this one stops after 2^64 - 1 turns, more than a walk takes.
+    Err(io::Error::from(ErrorKind::TimedOut))
+}
+
+// Where the file at a listed path lies. A path that could lead out of the root is an error: one with
+// `..`, and one with a symbolic link on the way.
+fn place_of<R: rt::Files>(rt: &R, alloc: Global, root: &str, path: &str) -> io::Result<Text> {
+    let mut place = Text::from_string(String::from_str(alloc, root)?);
+    for name in path.split('/') {
+        if name.is_empty() || name == "." || name == ".." {
+            return Err(io::Error::from(ErrorKind::InvalidFilename));
+        }
+        place = joined(alloc, place.as_str(), name)?;
+        if fs::symlink_metadata(rt, place.as_str())?.is_symlink() {
+            return Err(io::Error::from(ErrorKind::InvalidFilename));
+        }
+    }
+    Ok(place)
+}
+
+// A file's bytes, and `None` where it has more than `most`. It takes little more memory than `most`.
+fn read_within<R: rt::Files>(
+    rt: &R,
+    alloc: Global,
+    place: &str,
+    most: usize,
+) -> io::Result<Option<Vec<u8>>>
+    requires { most ≤ FILE_LIMIT }
+    ensures { IfOk result (λ body. IfSome body (λ bytes. vec_len bytes ≤ most)) }
+{
+    // One byte more shows that the file is longer, and the read that finds its end wants room too.
+    let mut bytes = Vec::with_capacity(alloc, most + 2)?;
+    let mut front = fs::open(rt, place)?.take(most as u64 + 1);
+    front.read_to_end(&mut bytes)?;
+    if bytes.len() > most {
+        return Ok(None);
+    }
+    Ok(Some(bytes))
+}
+
+// A file's bytes, and `None` where it has more than a file may have.
+fn read_file<R: rt::Files>(
+    rt: &R,
+    alloc: Global,
+    root: &str,
+    path: &str,
+) -> io::Result<Option<Vec<u8>>>
+    ensures { IfOk result (λ body. IfSome body (λ bytes. vec_len bytes ≤ FILE_LIMIT)) }
+{
+    let place = place_of(rt, alloc, root, path)?;
+    let metadata = fs::symlink_metadata(rt, place.as_str())?;
+    if !metadata.is_file() {
+        return Err(io::Error::from(ErrorKind::InvalidInput));
+    }
+    if metadata.len() > FILE_LIMIT as u64 {
+        return Ok(None);
+    }
+    match read_within(rt, alloc, place.as_str(), metadata.len() as usize)? {
+        Some(bytes) => Ok(Some(bytes)),
+        // The file has grown since.
+        None => read_within(rt, alloc, place.as_str(), FILE_LIMIT),
+    }
+}
+
+impl<R: rt::Files + AllocGlobal + Clone + Drop> Files for FolderFiles<R> {
+    ghost told = { λ _. None };
+
+    ghost faults = { λ files. folder_faults files };
+
+    fn list(&mut self, alloc: Global) -> Result<Items<Text>, FileFault>
+        ensures sorted { IfOk result (λ paths. IsSorted (slice_cmp nat_cmp) paths) }
+        ensures not_big { IsErrOf result FileFault.TooBig → ⊥ }
+        ensures cause { HasFileCause (folder_faults self.old) (folder_faults self.new) result }
+
+        ensures counted { IsErrOf result FileFault.Failed →
+            folder_faults self.new ≡ next_count (folder_faults self.old) }
+        ensures kept { (IsErrOf result FileFault.Failed → ⊥) →
+            folder_faults self.new ≡ folder_faults self.old }
+    {
+        match paths_below(&self.rt, alloc, self.folder.as_str()) {
+            Ok(paths) => Ok(Items::from_vec(paths)),
+            Err(error) => Err(self.fault_of(error)),
+        }
+    }
+
+    fn read(&mut self, alloc: Global, path: &Text) -> Result<Bytes, FileFault>
+        ensures small { IfOk result (λ bytes. length bytes ≤ FILE_LIMIT) }
+        ensures cause { HasFileCause (folder_faults self.old) (folder_faults self.new) result }
+
+        ensures counted { IsErrOf result FileFault.Failed →
+            folder_faults self.new ≡ next_count (folder_faults self.old) }
+        ensures kept { (IsErrOf result FileFault.Failed → ⊥) →
+            folder_faults self.new ≡ folder_faults self.old }
+    {
+        match read_file(&self.rt, alloc, self.folder.as_str(), path.as_str()) {
+            Ok(Some(bytes)) => Ok(Bytes::from_vec(bytes)),
+            Ok(None) => Err(FileFault::TooBig),
+            Err(error) => Err(self.fault_of(error)),
+        }
+    }
+}
+
+#[cfg(test)]
+mod tests {
+    use super::*;
+    use std::rt::Files as _;
+    use std::test::Fail;
+    use std::{env, process};
+
+    // A new folder of this name for temporary files, with a subfolder `views`.
+    fn made_folder(rt: &HostRuntime, name: &str) -> Result<Text, Fail> {
+        let above = env::temp_dir(rt)?;
+        let id = process::id(rt.process());
+        let folder = format!(in rt.alloc(); "{}/lk_io-{name}-{id}", above.as_str())?;
+        let views = format!(in rt.alloc(); "{folder}/views")?;
+        fs::create_dir_all(rt, views.as_str())?;
+        Ok(Text::from_string(folder))
+    }
+
+    fn path_of(rt: &HostRuntime, folder: &Text, name: &str) -> Result<Text, Fail> {
+        Ok(joined(rt.alloc(), folder.as_str(), name)?)
+    }
+
+    fn read_text(
+        files: &mut FolderFiles<HostRuntime>,
+        alloc: Global,
+        name: &str,
+    ) -> Result<Bytes, FileFault> {
+        let path = Text::from_str(alloc, name)?;
+        files.read(alloc, &path)
+    }
+
+    #[test]
+    fn lists_and_reads_the_files_below(rt: HostRuntime) -> Result<(), Fail> {
+        let folder = made_folder(&rt, "read")?;
+        for name in ["views/b", "model", "views/a"] {
+            fs::write(&rt, path_of(&rt, &folder, name)?.as_str(), name)?;
+        }
+        let mut files = FolderFiles::at(rt.clone()?, folder.copy(rt.alloc())?);
+        let paths = files.list(rt.alloc())?;
+        let wanted = ["model", "views/a", "views/b"];
+        assert_eq!(rt; paths.len(), wanted.len());
+        for (path, name) in paths.as_slice().iter().zip(wanted) {
+            assert_eq!(rt; path.as_str(), name);
+        }
+        for name in wanted {
+            assert_eq!(rt;
+                read_text(&mut files, rt.alloc(), name)?.as_slice(),
+                name.as_bytes()
+            );
+        }
+        fs::remove_dir_all(&rt, folder.as_str())?;
+        Ok(())
+    }
+
+    #[test]
+    fn follows_no_link_and_reads_nothing_outside(rt: HostRuntime) -> Result<(), Fail> {
+        let folder = made_folder(&rt, "links")?;
+        fs::write(&rt, path_of(&rt, &folder, "views/a")?.as_str(), "1")?;
+        rt.symlink("views/a", path_of(&rt, &folder, "linked")?.as_str())?;
+        rt.symlink("views", path_of(&rt, &folder, "more")?.as_str())?;
+        let mut files = FolderFiles::at(rt.clone()?, folder.copy(rt.alloc())?);
+        assert_eq!(rt; files.list(rt.alloc())?.len(), 1);
+        for name in [
+            "missing",
+            "linked",
+            "more/a",
+            "views",
+            "views/../views/a",
+            "/etc/hosts",
+            "",
+        ] {
+            let answer = read_text(&mut files, rt.alloc(), name);
+            assert!(rt; matches!(answer, Err(FileFault::Failed)), "at {name}");
+        }
+        assert_eq!(rt; files.faults(), 7);
+        fs::remove_dir_all(&rt, folder.as_str())?;
+        Ok(())
+    }
+
+    #[test]
+    fn a_file_over_the_limit_is_too_big(rt: HostRuntime) -> Result<(), Fail> {
+        let folder = made_folder(&rt, "sizes")?;
+        let mut files = FolderFiles::at(rt.clone()?, folder.copy(rt.alloc())?);
+        let path = Text::from_str(rt.alloc(), "large")?;
+        for (size, length) in [(67_108_864, Some(67_108_864)), (67_108_865, None)] {
+            let file = fs::create(&rt, path_of(&rt, &folder, "large")?.as_str())?;
+            file.set_len(size)?;
+            match files.read(rt.alloc(), &path) {
+                Ok(body) => assert_eq!(rt; Some(body.len()), length),
+                Err(fault) => {
+                    assert_eq!(rt; fault, FileFault::TooBig);
+                    assert_eq!(rt; None, length);
+                }
+            }
+        }
+        assert_eq!(rt; files.faults(), 0);
+        fs::remove_dir_all(&rt, folder.as_str())?;
+        Ok(())
+    }
+
+    #[test]
+    fn a_missing_folder_is_a_fault(rt: HostRuntime) -> Result<(), Fail> {
+        let folder = Text::from_str(rt.alloc(), "/no/such/folder")?;
+        let mut files = FolderFiles::at(rt.clone()?, folder);
+        assert!(rt; matches!(files.list(rt.alloc()), Err(FileFault::Failed)));
+        assert_eq!(rt; files.faults(), 1);
+        Ok(())
+    }
+}
