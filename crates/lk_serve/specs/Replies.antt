@@ -1,0 +1,53 @@
+-- What the program writes, and the status that it ends with.
+use Rattle.std.specs.Prelude.{ℕ, Bool, true, false, List, [], ◌∷◌, ◌++◌, map, codes}
+use Rattle.json.specs.Print.{quoted}
+use Rattle.lk_csv.specs.Records.{records_text}
+use Rattle.lk_types.specs.Printing.{cell_text}
+use Rattle.lk_types.specs.declared.query.Table.{Table}
+use Rattle.lk_serve.specs.declared.replies.Reply.{Reply}
+use Rattle.lk_serve.specs.declared.replies.Status.{Status}
+use Rattle.lk_serve.specs.declared.replies.Status.TheVariants.{Done, Faulty, Usage, Refused}
+
+-- the status of the process: 0 done, 1 a fault of the project, 2 wrong words, 8 a refused query (lookd)
+abbrev pub code_of : Status → ℕ
+code_of Done = 0
+code_of Faulty = 1
+code_of Usage = 2
+code_of Refused = 8
+
+-- the reply comes before the input is read
+abbrev pub ComesUnread : Status → Type 0
+ComesUnread Usage = Unit {0}
+ComesUnread Faulty = Unit {0}
+ComesUnread Done = ⊥
+ComesUnread Refused = ⊥
+
+-- a line and its end
+abbrev pub line : List ℕ → List ℕ
+line text = text ++ 10 ∷ []
+
+abbrev pub usage_reply : Reply
+usage_reply = record { body = line (codes "usage: lookd query|check|sql|script|serve|gen .."); status = Usage }
+
+-- the folder is no project of the first form
+abbrev pub faulty_reply : Reply
+faulty_reply = record { body = line (codes "Z1 - 0 - -"); status = Faulty }
+
+-- the caller, the explore or the query's form is wrong
+abbrev pub refused_reply : Reply
+refused_reply = record { body = line (codes "{\"error\":\"Z2\"}"); status = Refused }
+
+-- a name that is no field of the explore
+unfoldable pub unknown_reply : List ℕ → Reply
+unknown_reply name = record { body = line (codes "{\"error\":\"Q4\",\"field\":" ++ quoted name ++ codes "}"); status = Refused }
+
+abbrev pub completeness : Bool → List ℕ
+completeness true = line (codes "# snapshot 0, complete")
+completeness false = line (codes "# snapshot 0, cut")
+
+-- the names, a record for each line of the answer, and whether these are all (RFC 4180)
+unfoldable pub table_text : List (List ℕ) → Table → List ℕ
+table_text names table = records_text (names ∷ map (map cell_text) table.rows) ++ completeness table.complete
+
+abbrev pub answer_reply : List (List ℕ) → Table → Reply
+answer_reply names table = record { body = table_text names table; status = Done }

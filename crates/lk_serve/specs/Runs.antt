@@ -1,0 +1,36 @@
+-- How a run ends, and what it leaves outside.
+use Rattle.std.specs.Prelude.{◌≡◌, ℕ, ◌≤◌, ◌==◌, ◌||◌, Bool, List, Option, IsTrue}
+use Rattle.std.specs.Io.KnownBytes.{Appends}
+use Rattle.lk_serve.specs.Replies.{code_of}
+use Rattle.lk_serve.specs.declared.replies.Reply.{Reply}
+
+-- the status of a run that something outside stopped: 3 the input, 4 the output, 6 memory, 7 the files (lookd)
+abbrev pub is_stopped : ℕ → Bool
+is_stopped status = status == 3 || status == 4 || status == 6 || status == 7
+
+-- the status is one of those that a run has
+abbrev pub IsStatus : ℕ → Type 0
+IsStatus status = IsTrue (is_stopped status || status == 0 || status == 1 || status == 2 || status == 8)
+
+-- wrong words end with their own status, unless the line on them can't be made or written
+abbrev pub IsUsageStatus : ℕ → Type 0
+IsUsageStatus status = IsTrue (status == 2 || status == 4 || status == 6)
+
+-- the run stopped before it had a reply
+abbrev pub StopsBefore : ℕ → Type 0
+StopsBefore status = IsTrue (status == 3 || status == 6 || status == 7)
+
+-- the run ended before it read the input
+abbrev pub LeavesInput : ℕ → Type 0
+LeavesInput status = IsTrue (status == 1 || status == 2 || status == 7)
+
+-- the reply went out whole, and the run ended with its status
+pub record IsWritten (old new : Option (List ℕ)) (reply : Reply) (status : ℕ) : Type 0 where
+  pub body : Appends old new reply.body
+  pub status_is : status ≡ code_of reply.status
+
+-- no count of faults fell
+pub record NeverFall (files files' input input' out out' : ℕ) : Type 0 where
+  pub files_count : files ≤ files'
+  pub input_count : input ≤ input'
+  pub out_count : out ≤ out'

@@ -1,0 +1,16 @@
+//! The top call: words, a folder's files and an input come in, and the reply to a query goes out.
+#![tactic(auto)]
+
+mod asked;
+mod body;
+mod folder;
+mod picked;
+mod replies;
+mod serve;
+mod stops;
+mod words;
+
+pub use serve::run;
+
+#[cfg(test)]
+mod tests;
