@@ -1,2 +1,4 @@
 pub mod SetLaws
+pub mod LeastLaws
+pub mod ValueLaws
 pub mod DistinctLaws

@@ -1,16 +1,16 @@
 -- Laws of sets: the set of a list ascends and has the list's items, and two sets with the same items are equal.
-use Rattle.std.proofs.Common.{◌≡◌, Bool, true, false, ◌||◌, List, [], ◌∷◌, ◌++◌, refl, sym, ap, ◌∙◌, subst}
-use Rattle.std.specs.Ordering.{is_eq, match_ordering, eq_by_cmp, ordering_reverse}
+use Rattle.std.proofs.Common.{◌≡◌, Bool, true, false, ◌&&◌, ◌||◌, List, [], ◌∷◌, ◌++◌, map, refl, sym, ap, ◌∙◌, subst}
+use Rattle.std.specs.Ordering.{is_eq, is_gt, on, match_ordering, eq_by_cmp, ordering_reverse}
 use Rattle.std.specs.declared.cmp.Ordering.{Ordering}
 use Rattle.std.specs.declared.cmp.Ordering.TheVariants.{Less, Equal, Greater}
 use Rattle.std.specs.Cmp.{tied_itself, Equal-is}
-use Rattle.std.specs.Prelude.{IsPermutation}
+use Rattle.std.specs.Prelude.{IsPermutation, flat_map, if◌then◌else◌}
 use Rattle.std.proofs.lemmas.List.Folds.{list_any-append}
 use Rattle.std.proofs.lemmas.List.Sorted.{list_any-IsPermutation}
 use Rattle.std.proofs.lemmas.Bool.{false≢true}
 use Rattle.std.specs.List.{AllByRecursion}
 use Rattle.std.specs.List.Sorted.{IsStrictlySortedBy}
-use Rattle.lk_val.specs.Sets.{IsExactOrder, with_item, set_of, has}
+use Rattle.lk_val.specs.Sets.{IsExactOrder, with_item, set_of, has, first_of}
 
 -- x is before each item
 abbrev pub IsBefore : {A : Type 0} → (A → A → Ordering) → A → List A → Type 0
@@ -132,3 +132,167 @@ module _ {A : Type 0} {cmp : A → A → Ordering} (o : IsExactOrder cmp) where
   -- one more item at the end of the list is one more item of the set
   pub set_of-push : (xs : List A) (x : A) → set_of cmp (xs ++ x ∷ []) ≡ with_item cmp x (set_of cmp xs)
   set_of-push xs x = set_of_same (xs ++ x ∷ []) (x ∷ xs) (λ q. list_any-append (eq_by_cmp cmp q) xs (x ∷ []) ∙ or_swapped (has cmp q xs) (eq_by_cmp cmp q x))
+
+-- what a total is taken by: an operation that is associative and commutative, with a unit
+pub record IsCommutative {M : Type 0} (op : M → M → M) (unit : M) : Type 0 where
+  pub assoc : (a b c : M) → op (op a b) c ≡ op a (op b c)
+  pub comm : (a b : M) → op a b ≡ op b a
+  pub left_unit : (a : M) → op unit a ≡ a
+
+-- F is the total of g over a list
+pub record IsTotal {A M : Type 0} (op : M → M → M) (unit : M) (g : A → M) (F : List A → M) : Type 0 where
+  pub none : F [] ≡ unit
+  pub one_more : (x : A) (xs : List A) → F (x ∷ xs) ≡ op (g x) (F xs)
+
+second_false : (a b : Bool) → (a && b) ≡ false → a ≡ true → b ≡ false
+second_false true b e t = e
+second_false false b e t = absurd (false≢true t)
+
+or_true : (a b : Bool) → a ≡ true → (a || b) ≡ true
+or_true true b e = refl
+or_true false b e = absurd (false≢true e)
+
+and_rest : (a b c : Bool) → ((a || b) && c) ≡ false → (b && c) ≡ false
+and_rest true b false e = elim b as (λ b. (b && false) ≡ false) [ true ↦ refl | false ↦ refl ]
+and_rest true b true e = absurd (false≢true (sym e))
+and_rest false b c e = e
+
+module _ {A : Type 0} {cmp : A → A → Ordering} (o : IsExactOrder cmp) where
+  -- an item that a set has changes nothing
+  pub item_again : (x : A) (s : List A) → IsStrictlySortedBy cmp s → has cmp x s ≡ true → with_item cmp x s ≡ s
+  unfolding IsStrictlySortedBy
+  item_again x [] is h = absurd (false≢true h)
+  item_again x (y ∷ ys) is h =
+      elim (cmp x y) as (λ r. cmp x y ≡ r → (is_eq r || has cmp x ys) ≡ true → match_ordering r (x ∷ y ∷ ys) (y ∷ ys) (y ∷ with_item cmp x ys) ≡ y ∷ ys) [
+        | Less ↦ λ e h. not_both (has cmp x ys) h (has_not o x ys (before_all o x y ys e is.0))
+        | Equal ↦ λ e h. refl
+        | Greater ↦ λ e h. ap (λ t. y ∷ t) (item_again x ys is.1 h)
+      ] refl h
+
+  module _ {M : Type 0} {op : M → M → M} {unit : M} (c : IsCommutative op unit) {g : A → M} {F : List A → M} (t : IsTotal op unit g F) where
+    op_swap : (a b d : M) → op a (op b d) ≡ op b (op a d)
+    op_swap a b d = sym (c.assoc a b d) ∙ ap (λ m. op m d) (c.comm a b) ∙ c.assoc b a d
+
+    -- a new item adds its share
+    pub item_new : (x : A) (s : List A) → has cmp x s ≡ false → F (with_item cmp x s) ≡ op (g x) (F s)
+    item_new x [] h = t.one_more x []
+    item_new x (y ∷ ys) h =
+        elim (cmp x y) as (λ r. (is_eq r || has cmp x ys) ≡ false → F (match_ordering r (x ∷ y ∷ ys) (y ∷ ys) (y ∷ with_item cmp x ys)) ≡ op (g x) (F (y ∷ ys))) [
+          | Less ↦ λ h. t.one_more x (y ∷ ys)
+          | Equal ↦ λ h. absurd (false≢true (sym h))
+          | Greater ↦ λ h. t.one_more y (with_item cmp x ys) ∙ ap (op (g y)) (item_new x ys h) ∙ op_swap (g y) (g x) (F ys) ∙ ap (op (g x)) (sym (t.one_more y ys))
+        ] h
+
+    -- the total over the set of two lists without a common item
+    pub total-set_of-append : (us vs : List A) → ((q : A) → (has cmp q us && has cmp q vs) ≡ false) → F (set_of cmp (us ++ vs)) ≡ op (F (set_of cmp us)) (F (set_of cmp vs))
+    total-set_of-append [] vs apart = sym (ap (λ m. op m (F (set_of cmp vs))) t.none ∙ c.left_unit (F (set_of cmp vs)))
+    total-set_of-append (u ∷ us) vs apart =
+        let all : has cmp u (set_of cmp (us ++ vs)) ≡ (has cmp u us || has cmp u vs) = has-set_of o u (us ++ vs) ∙ list_any-append (eq_by_cmp cmp u) us vs in
+        let not_later : has cmp u vs ≡ false = second_false (has cmp u (u ∷ us)) (has cmp u vs) (apart u) (has_itself o u us) in
+        let rest : F (set_of cmp (us ++ vs)) ≡ op (F (set_of cmp us)) (F (set_of cmp vs)) = total-set_of-append us vs (λ q. and_rest (eq_by_cmp cmp q u) (has cmp q us) (has cmp q vs) (apart q)) in
+        elim (has cmp u us) as (λ b. has cmp u us ≡ b → F (with_item cmp u (set_of cmp (us ++ vs))) ≡ op (F (with_item cmp u (set_of cmp us))) (F (set_of cmp vs))) [
+          | true ↦ λ e.
+              ap F (item_again u (set_of cmp (us ++ vs)) (IsStrictlySortedBy-set_of o (us ++ vs)) (all ∙ or_true (has cmp u us) (has cmp u vs) e))
+              ∙ rest ∙ ap (λ s. op (F s) (F (set_of cmp vs))) (sym (item_again u (set_of cmp us) (IsStrictlySortedBy-set_of o us) (has-set_of o u us ∙ e)))
+          | false ↦ λ e.
+              item_new u (set_of cmp (us ++ vs)) (all ∙ ap (λ b. b || has cmp u vs) e ∙ not_later)
+              ∙ ap (op (g u)) rest ∙ sym (c.assoc (g u) (F (set_of cmp us)) (F (set_of cmp vs)))
+              ∙ ap (λ m. op m (F (set_of cmp vs))) (sym (item_new u (set_of cmp us) (has-set_of o u us ∙ e)))
+        ] refl
+
+    -- no item of one list is in two of the lists that h gives
+    abbrev pub AreApart : {G : Type 0} → (G → List A) → List G → Type 0
+    AreApart h [] = Unit {0}
+    AreApart h (x ∷ xs) = ((q : A) → (has cmp q (h x) && has cmp q (flat_map h xs)) ≡ false) × AreApart h xs
+
+    -- the totals of all the lists together
+    abbrev pub total_of_each : {G : Type 0} → (G → List A) → List G → M
+    total_of_each h [] = unit
+    total_of_each h (x ∷ xs) = op (F (set_of cmp (h x))) (total_of_each h xs)
+
+    -- the total over the set of several lists without a common item is the total of their totals
+    pub total-set_of-flat_map : {G : Type 0} (h : G → List A) (xs : List G) → AreApart h xs → F (set_of cmp (flat_map h xs)) ≡ total_of_each h xs
+    total-set_of-flat_map h [] apart = t.none
+    total-set_of-flat_map h (x ∷ xs) apart = total-set_of-append (h x) (flat_map h xs) apart.0 ∙ ap (op (F (set_of cmp (h x)))) (total-set_of-flat_map h xs apart.1)
+
+-- ---- operations to which an item that comes twice is as one
+
+module _ {A : Type 0} {cmp : A → A → Ordering} (o : IsExactOrder cmp) {M : Type 0} {op : M → M → M} {unit : M} (c : IsCommutative op unit) {g : A → M} {F : List A → M} (t : IsTotal op unit g F) (twice : (a : M) → op a a ≡ a) where
+  swap_front : (a b d : M) → op a (op b d) ≡ op b (op a d)
+  swap_front a b d = sym (c.assoc a b d) ∙ ap (λ m. op m d) (c.comm a b) ∙ c.assoc b a d
+
+  absorbed : (x : A) (s : List A) → has cmp x s ≡ true → op (g x) (F s) ≡ F s
+  absorbed x [] h = absurd (false≢true h)
+  absorbed x (y ∷ ys) h =
+      elim (eq_by_cmp cmp x y) as (λ b. eq_by_cmp cmp x y ≡ b → (b || has cmp x ys) ≡ true → op (g x) (F (y ∷ ys)) ≡ F (y ∷ ys)) [
+        | true ↦ λ e h. ap (op (g x)) (t.one_more y ys) ∙ sym (c.assoc (g x) (g y) (F ys))
+            ∙ ap (λ m. op m (F ys)) (ap (λ z. op (g z) (g y)) (ties o x y e) ∙ twice (g y)) ∙ sym (t.one_more y ys)
+        | false ↦ λ e h. ap (op (g x)) (t.one_more y ys) ∙ swap_front (g x) (g y) (F ys) ∙ ap (op (g y)) (absorbed x ys h) ∙ sym (t.one_more y ys)
+      ] refl h
+
+  -- a least or greatest value over a list is that over its set
+  pub total-set_of : (xs : List A) → F (set_of cmp xs) ≡ F xs
+  total-set_of [] = refl
+  total-set_of (x ∷ xs) =
+      elim (has cmp x (set_of cmp xs)) as (λ b. has cmp x (set_of cmp xs) ≡ b → F (with_item cmp x (set_of cmp xs)) ≡ F (x ∷ xs)) [
+        | true ↦ λ e. ap F (item_again o x (set_of cmp xs) (IsStrictlySortedBy-set_of o xs) e) ∙ sym (absorbed x (set_of cmp xs) e) ∙ ap (op (g x)) (total-set_of xs) ∙ sym (t.one_more x xs)
+        | false ↦ λ e. item_new o c t x (set_of cmp xs) e ∙ ap (op (g x)) (total-set_of xs) ∙ sym (t.one_more x xs)
+      ] refl
+
+-- the set of images is the images of the set, under the order of the images
+pub set_of-map : {G A : Type 0} (cmp : A → A → Ordering) (f : G → A) (gs : List G) → set_of cmp (map f gs) ≡ map f (set_of (on f cmp) gs)
+set_of-map cmp f [] = refl
+set_of-map {G} {A} cmp f (g ∷ gs) = ap (with_item cmp (f g)) (set_of-map cmp f gs) ∙ one_more (set_of (on f cmp) gs)
+  where
+    one_more : (s : List G) → with_item cmp (f g) (map f s) ≡ map f (with_item (on f cmp) g s)
+    one_more [] = refl
+    one_more (h ∷ hs) =
+        elim (cmp (f g) (f h)) as (λ r. match_ordering r (f g ∷ f h ∷ map f hs) (f h ∷ map f hs) (f h ∷ with_item cmp (f g) (map f hs)) ≡ map f (match_ordering r (g ∷ h ∷ hs) (h ∷ hs) (h ∷ with_item (on f cmp) g hs))) [
+          | Less ↦ refl
+          | Equal ↦ refl
+          | Greater ↦ ap (λ t. f h ∷ t) (one_more hs)
+        ]
+
+-- ---- the first of two items
+
+module _ {A : Type 0} {cmp : A → A → Ordering} (o : IsExactOrder cmp) where
+  pub first_of-twice : (a : A) → first_of cmp a a ≡ a
+  first_of-twice a = elim (is_gt (cmp a a)) as (λ b. (if b then a else a) ≡ a) [ true ↦ refl | false ↦ refl ]
+
+  pub first_of-comm : (a b : A) → first_of cmp a b ≡ first_of cmp b a
+  first_of-comm a b =
+      elim (cmp a b) as (λ r. cmp a b ≡ r → (if is_gt r then b else a) ≡ first_of cmp b a) [
+        | Less ↦ λ e. ap (λ r. if is_gt r then a else b) (sym (o.total.antisymm b a ∙ ap ordering_reverse e))
+        | Equal ↦ λ e. o.exact a b e ∙ sym (ap (λ r. if is_gt r then a else b) (o.total.antisymm b a ∙ ap ordering_reverse e))
+        | Greater ↦ λ e. ap (λ r. if is_gt r then a else b) (sym (o.total.antisymm b a ∙ ap ordering_reverse e))
+      ] refl
+
+  first_at : (a b : A) (r : Ordering) → cmp a b ≡ r → first_of cmp a b ≡ (if is_gt r then b else a)
+  first_at a b r e = ap (λ r. if is_gt r then b else a) e
+
+  turned_back : (x y : A) → cmp x y ≡ Greater → cmp y x ≡ Less
+  turned_back x y g = o.total.antisymm y x ∙ ap ordering_reverse g
+
+  turned_over : (x y : A) → cmp x y ≡ Less → cmp y x ≡ Greater
+  turned_over x y l = o.total.antisymm y x ∙ ap ordering_reverse l
+
+  pub first_of-assoc : (a b c : A) → first_of cmp (first_of cmp a b) c ≡ first_of cmp a (first_of cmp b c)
+  first_of-assoc a b c =
+      elim (cmp a b) as (λ r. cmp a b ≡ r → first_of cmp (if is_gt r then b else a) c ≡ first_of cmp a (first_of cmp b c)) [
+        | Less ↦ λ ab. elim (cmp b c) as (λ s. cmp b c ≡ s → first_of cmp a c ≡ first_of cmp a (if is_gt s then c else b)) [
+          | Less ↦ λ bc. first_at a c Less (o.total.trans a b c ab bc) ∙ sym (first_at a b Less ab)
+          | Equal ↦ λ bc. ap (first_of cmp a) (sym (o.exact b c bc))
+          | Greater ↦ λ bc. refl
+        ] refl
+        | Equal ↦ λ ab. let one : a ≡ b = o.exact a b ab in
+            elim (cmp b c) as (λ s. cmp b c ≡ s → first_of cmp a c ≡ first_of cmp a (if is_gt s then c else b)) [
+              | Less ↦ λ bc. first_at a c Less (ap (λ z. cmp z c) one ∙ bc) ∙ sym (first_at a b Equal ab)
+              | Equal ↦ λ bc. ap (first_of cmp a) (sym (o.exact b c bc))
+              | Greater ↦ λ bc. refl
+            ] refl
+        | Greater ↦ λ ab. elim (cmp b c) as (λ s. cmp b c ≡ s → first_of cmp b c ≡ first_of cmp a (if is_gt s then c else b)) [
+          | Less ↦ λ bc. first_at b c Less bc ∙ sym (first_at a b Greater ab)
+          | Equal ↦ λ bc. first_at b c Equal bc ∙ sym (first_at a b Greater ab)
+          | Greater ↦ λ bc. first_at b c Greater bc ∙ sym (first_at a c Greater (turned_over c a (o.total.trans c b a (turned_back b c bc) (turned_back a b ab))))
+        ] refl
+      ] refl

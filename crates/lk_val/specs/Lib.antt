@@ -4,3 +4,8 @@ pub mod Texts
 pub mod Values
 pub mod ValueOrder
 pub mod Numbers
+pub mod Fractions
+pub mod Rounding
+pub mod Cells
+pub mod Least
+pub mod Faults

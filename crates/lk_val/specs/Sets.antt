@@ -1,7 +1,7 @@
 -- Sets, as ascending lists in which no two items tie.
-use Rattle.std.specs.Prelude.{Bool, List, [], ◌∷◌}
+use Rattle.std.specs.Prelude.{Bool, List, [], ◌∷◌, if◌then◌else◌}
 use Rattle.std.specs.List.{list_any}
-use Rattle.std.specs.Ordering.{match_ordering, eq_by_cmp}
+use Rattle.std.specs.Ordering.{match_ordering, eq_by_cmp, is_gt}
 use Rattle.std.specs.declared.cmp.Ordering.{Ordering}
 use Rattle.std.specs.Cmp.{IsTotalOrder}
 use Rattle.std.specs.FinMap.{IsAntisymmetric}
@@ -21,6 +21,10 @@ module _ {A : Type 0} (cmp : A → A → Ordering) where
   abbrev pub set_of : List A → List A
   set_of [] = []
   set_of (x ∷ xs) = with_item x (set_of xs)
+
+  -- of two items the one that comes first
+  abbrev pub first_of : A → A → A
+  first_of x y = if is_gt (cmp x y) then y else x
 
   -- the item ties with one of the list
   abbrev pub has : A → List A → Bool

@@ -1,6 +1,6 @@
 -- The order of values.
 use Rattle.std.specs.Prelude.{ℕ, Bool, ◌==◌, List}
-use Rattle.std.specs.Ordering.{nat_cmp, int_cmp, bool_cmp, is_eq}
+use Rattle.std.specs.Ordering.{nat_cmp, int_cmp, bool_cmp, is_eq, ordering_then}
 use Rattle.std.specs.Cmp.Lexicographic.{slice_cmp}
 use Rattle.std.specs.declared.cmp.Ordering.{Ordering}
 use Rattle.lk_val.specs.declared.value.Value.{Value}
@@ -37,3 +37,7 @@ is_same_tuple a b = is_eq (tuple_cmp a b)
 
 abbrev pub is_null : Value → Bool
 is_null v = rank v == 0
+
+-- the order in which null stands last
+abbrev pub null_last_cmp : Value → Value → Ordering
+null_last_cmp a b = ordering_then (bool_cmp (is_null a) (is_null b)) (value_cmp a b)

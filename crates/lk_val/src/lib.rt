@@ -4,6 +4,8 @@
 mod bytes;
 mod cell;
 mod distinct;
+mod fault;
+mod frac;
 mod items;
 mod memory;
 mod num;
@@ -13,8 +15,10 @@ mod tuple;
 mod value;
 
 pub use bytes::Bytes;
-pub use cell::{Cell, Frac};
+pub use cell::Cell;
 pub use distinct::do_differ;
+pub use fault::{FaultLine, ModelFault};
+pub use frac::Frac;
 pub use items::Items;
 pub use memory::NoMemory;
 pub use num::{Num, NumFault, print_count};

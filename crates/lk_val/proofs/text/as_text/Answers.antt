@@ -1,8 +1,7 @@
 use Rattle.std.proofs.Common.{◌≡◌, Bool, true, false, cond, refl, sym, ap, ◌∙◌, List, ℕ}
-use Rattle.std.specs.Prelude.{Some, None, Option, IsUtf8}
+use Rattle.std.specs.Prelude.{Some, None, IsUtf8}
 use Rattle.std.specs.Str.{is_utf8}
 use Rattle.std.proofs.lemmas.Str.{is_utf8-from_IsUtf8, IsUtf8-from_is_utf8}
-use Rattle.lk_val.specs.Texts.{text_of}
 use Rattle.lk_val.proofs.text.as_text.Goals as goal
 
 -- bytes that are no text fail the test
