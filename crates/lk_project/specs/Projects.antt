@@ -2,12 +2,12 @@
 use Rattle.std.specs.Prelude.{◌<◌, ℕ, Bool, true, false, not, ◌^◌, nat_lt, if◌then◌else◌, List, [], ◌∷◌, ◌++◌, drop, length, Option, Some, None, codes}
 use Rattle.std.specs.List.{filter, position}
 use Rattle.lk_val.specs.declared.value.Value.{Value}
-use Rattle.lk_types.specs.declared.explore.Explore.{Explore}
-use Rattle.lk_types.specs.declared.explore.Field.{Field}
-use Rattle.lk_types.specs.declared.explore.Measure.{Measure}
-use Rattle.lk_types.specs.declared.explore.Op.TheVariants as op
+use Rattle.lk_plain.specs.declared.explore.Explore.{Explore}
+use Rattle.lk_plain.specs.declared.explore.Field.{Field}
+use Rattle.lk_plain.specs.declared.explore.Measure.{Measure}
+use Rattle.lk_plain.specs.declared.explore.Op.TheVariants as op
 use Rattle.lk_types.specs.declared.schema.Kind.{Kind}
-use Rattle.lk_types.specs.declared.schema.Kind.TheVariants.{Text, Number}
+use Rattle.lk_types.specs.declared.schema.Kind.TheVariants.{Text, Number, Truth, Day, Moment}
 use Rattle.lk_types.specs.declared.schema.ColumnDef.{ColumnDef}
 use Rattle.lk_types.specs.declared.schema.TableDef.{TableDef}
 use Rattle.lk_csv.specs.Records.{records_of}
@@ -28,6 +28,9 @@ use Rattle.lk_project.specs.Rows.{rows_of}
 abbrev pub is_same_kind : Kind → Kind → Bool
 is_same_kind Text Text = true
 is_same_kind Number Number = true
+is_same_kind Truth Truth = true
+is_same_kind Day Day = true
+is_same_kind Moment Moment = true
 is_same_kind a b = false
 
 -- the place of the column of this name

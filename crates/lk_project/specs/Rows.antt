@@ -12,7 +12,7 @@ use Rattle.lk_types.specs.declared.schema.Kind.{Kind}
 use Rattle.lk_types.specs.declared.schema.Kind.TheVariants.{Text, Number}
 use Rattle.lk_types.specs.declared.schema.ColumnDef.{ColumnDef}
 use Rattle.lk_types.specs.declared.schema.TableDef.{TableDef}
-use Rattle.lk_types.specs.Rows.{cell_at}
+use Rattle.lk_plain.specs.Rows.{cell_at}
 use Rattle.std.specs.Str.{is_utf8}
 use Rattle.lk_val.specs.Texts.{is_same_text}
 use Rattle.lk_val.specs.Distinct.{do_differ}
@@ -30,11 +30,12 @@ abbrev pub number_cell : Result Num NumFault → Option Value
 number_cell (Ok number) = Some (value.Num number)
 number_cell (Err fault) = None
 
--- the cell of a column with this kind: null where the field is empty
+-- the cell of a column with this kind: null where the field is empty. The first form has texts and numbers
 abbrev pub cell_of : Kind → List ℕ → Option Value
 cell_of kind [] = Some value.Null
 cell_of Text (c ∷ cs) = text_cell (c ∷ cs)
 cell_of Number (c ∷ cs) = number_cell (num_of (c ∷ cs))
+cell_of kind (c ∷ cs) = None
 
 -- the row of a record, which has a field for each column
 abbrev pub row_of : List ColumnDef → Fields → Option (List Value)

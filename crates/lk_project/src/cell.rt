@@ -39,6 +39,7 @@ fn read_cell(alloc: Global, kind: Kind, field: &[u8]) -> Result<Option<Value>, N
     match kind {
         Kind::Text => text_cell(alloc, field),
         Kind::Number => Ok(number_cell(field)),
+        Kind::Truth | Kind::Day | Kind::Moment => Ok(None),
     }
 }
 

@@ -1,7 +1,7 @@
 ghost use Rattle.std.specs.Prelude.{◌≡◌, IfOk, map};
 ghost use Rattle.std.specs.List.{list_any};
 ghost use Rattle.lk_val.specs.Values.{is_null};
-ghost use Rattle.lk_types.specs.Rows.{cell_at};
+ghost use Rattle.lk_plain.specs.Rows.{cell_at};
 ghost use Rattle.lk_project.specs.Rows.{are_keys};
 
 use lk_val::{Items, NoMemory, Value, do_differ};

@@ -7,7 +7,8 @@ use crate::rows::read_rows;
 use crate::table::{NUMBERS, read_table};
 use crate::user::read_users;
 use crate::view::View;
-use lk_types::{ColumnDef, Explore};
+use lk_plain::Explore;
+use lk_types::ColumnDef;
 use lk_val::{Items, NoMemory, Text, Value};
 use std::alloc::Global;
 

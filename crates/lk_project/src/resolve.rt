@@ -3,7 +3,8 @@ ghost use Rattle.lk_project.specs.Projects.{full_name, is_dimension, field_of, m
 
 use crate::index::ColumnIndex;
 use crate::view::{Content, Declared};
-use lk_types::{Field, Kind, Measure, Op};
+use lk_plain::{Field, Measure, Op};
+use lk_types::Kind;
 use lk_val::{Items, NoMemory, Text};
 use std::alloc::Global;
 

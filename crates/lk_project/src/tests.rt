@@ -1,5 +1,5 @@
 use crate::{Project, read_project, read_view};
-use lk_types::Op;
+use lk_plain::Op;
 use lk_val::{Items, NoMemory, Num, Value};
 use std::alloc::Global;
 use std::test::Fail;

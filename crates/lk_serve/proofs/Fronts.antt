@@ -1,6 +1,6 @@
 -- What a loop over a list has done so far, in front of what the definition makes of the rest.
 use Rattle.std.specs.Prelude.{ℕ, List, [], ◌∷◌, ◌++◌, Option, Some, None}
-use Rattle.lk_types.specs.declared.explore.Pick.{Pick}
+use Rattle.lk_plain.specs.declared.explore.Pick.{Pick}
 use Rattle.lk_serve.specs.Projects.{the_only}
 use Rattle.lk_serve.specs.declared.picked.Binding.{Binding}
 use Rattle.lk_serve.specs.declared.picked.Binding.TheVariants.{Picks, Unknown}

@@ -1,12 +1,12 @@
 -- Which fields and measures of an explore the names of a query pick.
 use Rattle.std.specs.Prelude.{ℕ, All, List, [], ◌∷◌, position, Option, Some, None}
 use Rattle.lk_val.specs.Texts.{is_same_text}
-use Rattle.lk_types.specs.declared.explore.Explore.{Explore}
-use Rattle.lk_types.specs.declared.explore.Field.{Field}
-use Rattle.lk_types.specs.declared.explore.Measure.{Measure}
-use Rattle.lk_types.specs.declared.explore.Pick.{Pick}
-use Rattle.lk_types.specs.declared.explore.Pick.TheVariants.{Dim, Mea}
-use Rattle.lk_types.specs.Answers.{IsPick}
+use Rattle.lk_plain.specs.declared.explore.Explore.{Explore}
+use Rattle.lk_plain.specs.declared.explore.Field.{Field}
+use Rattle.lk_plain.specs.declared.explore.Measure.{Measure}
+use Rattle.lk_plain.specs.declared.explore.Pick.{Pick}
+use Rattle.lk_plain.specs.declared.explore.Pick.TheVariants.{Dim, Mea}
+use Rattle.lk_plain.specs.Answers.{IsPick}
 use Rattle.lk_serve.specs.declared.picked.Binding.{Binding}
 use Rattle.lk_serve.specs.declared.picked.Binding.TheVariants.{Picks, Unknown}
 

@@ -3,7 +3,9 @@ use Rattle.std.specs.Prelude.{ℕ, Bool, true, false, List, [], ◌∷◌, ◌++
 use Rattle.json.specs.Print.{quoted}
 use Rattle.lk_csv.specs.Records.{records_text}
 use Rattle.lk_types.specs.Printing.{cell_text}
-use Rattle.lk_types.specs.declared.query.Table.{Table}
+use Rattle.lk_types.specs.declared.explore.Shape.TheVariants as shape
+use Rattle.lk_val.specs.declared.cell.Cell.{Cell}
+use Rattle.lk_plain.specs.declared.query.Table.{Table}
 use Rattle.lk_serve.specs.declared.replies.Reply.{Reply}
 use Rattle.lk_serve.specs.declared.replies.Status.{Status}
 use Rattle.lk_serve.specs.declared.replies.Status.TheVariants.{Done, Faulty, Usage, Refused}
@@ -45,9 +47,13 @@ abbrev pub completeness : Bool → List ℕ
 completeness true = line (codes "# snapshot 0, complete")
 completeness false = line (codes "# snapshot 0, cut")
 
+-- a cell of a project of the first form, which has no tiers and no timeframes
+abbrev pub plain_text : Cell → List ℕ
+plain_text = cell_text shape.Plain
+
 -- the names, a record for each line of the answer, and whether these are all (RFC 4180)
 unfoldable pub table_text : List (List ℕ) → Table → List ℕ
-table_text names table = records_text (names ∷ map (map cell_text) table.rows) ++ completeness table.complete
+table_text names table = records_text (names ∷ map (map plain_text) table.rows) ++ completeness table.complete
 
 abbrev pub answer_reply : List (List ℕ) → Table → Reply
 answer_reply names table = record { body = table_text names table; status = Done }

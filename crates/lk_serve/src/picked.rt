@@ -1,9 +1,9 @@
 ghost use Rattle.std.specs.Prelude.{◌≡◌, ◌<◌, ◌^◌, IfOk, IfSome, length, position};
 ghost use Rattle.lk_val.specs.Texts.{is_same_text};
-ghost use Rattle.lk_types.specs.Answers.{IsPick};
+ghost use Rattle.lk_plain.specs.Answers.{IsPick};
 ghost use Rattle.lk_serve.specs.Picked.{HasPicks, bound_by, pick_of};
 
-use lk_types::{Explore, Field, Measure, Pick};
+use lk_plain::{Explore, Field, Measure, Pick};
 use lk_val::{Items, NoMemory, Text};
 use std::alloc::Global;
 

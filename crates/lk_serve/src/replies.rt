@@ -1,12 +1,12 @@
 ghost use Rattle.std.specs.Prelude.{◌≡◌, ◌∷◌, ◌++◌, [], IfOk, OnOk, map, codes};
 ghost use Rattle.json.specs.Print.{quoted};
 ghost use Rattle.lk_csv.specs.Records.{record_text, records_text};
-ghost use Rattle.lk_types.specs.Printing.{cell_text};
 ghost use Rattle.lk_serve.specs.declared.replies.Status.{Status};
-ghost use Rattle.lk_serve.specs.Replies.{code_of, line, usage_reply, faulty_reply, refused_reply, unknown_reply, answer_reply, table_text, completeness};
+ghost use Rattle.lk_serve.specs.Replies.{code_of, line, usage_reply, faulty_reply, refused_reply, unknown_reply, answer_reply, table_text, completeness, plain_text};
 
 use lk_csv::write_record;
-use lk_types::{Table, print_cell};
+use lk_plain::Table;
+use lk_types::{Shape, print_cell};
 use lk_val::{Bytes, Cell, Items, NoMemory, Text};
 use serde_json::json;
 use std::alloc::Global;
@@ -121,7 +121,7 @@ fn print_table(alloc: Global, names: &[Text], table: &Table) -> Result<Bytes, No
 
 #[tactic(auto, unfolding(lk_csv::specs::Records::records_text))]
 fn append_lines(alloc: Global, text: &mut Bytes, rows: &[Items<Cell>]) -> Result<(), NoMemory>
-    ensures { OnOk result (text.new ≡ text.old ++ records_text (map (map cell_text) rows.now)) }
+    ensures { OnOk result (text.new ≡ text.old ++ records_text (map (map plain_text) rows.now)) }
 {
     for row in rows {
         let fields = print_cells(alloc, row.as_slice())?;
@@ -132,11 +132,11 @@ fn append_lines(alloc: Global, text: &mut Bytes, rows: &[Items<Cell>]) -> Result
 }
 
 fn print_cells(alloc: Global, cells: &[Cell]) -> Result<Items<Text>, NoMemory>
-    ensures { IfOk result (λ fields. fields ≡ map cell_text cells.now) }
+    ensures { IfOk result (λ fields. fields ≡ map plain_text cells.now) }
 {
     let mut fields = Items::new(alloc);
     for cell in cells {
-        fields.push(print_cell(alloc, cell)?)?;
+        fields.push(print_cell(alloc, cell, &Shape::Plain)?)?;
     }
     Ok(fields)
 }

@@ -21,7 +21,7 @@ use crate::stops::Stop;
 use crate::words::read_words;
 use lk_io::{Files, Sink, Source};
 use lk_project::Project;
-use lk_types::{Bound, answer};
+use lk_plain::{Bound, answer};
 use lk_val::{Bytes, Items, NoMemory, Text, is_among};
 use std::alloc::Global;
 

@@ -1,10 +1,18 @@
 -- Days of the Gregorian calendar. A day counts from 1970-01-01 in a value, and here from 0001-01-01.
-use Rattle.std.specs.Prelude.{ℕ, ◌+◌, ◌-◌, ◌*◌, ◌/◌, ◌%◌, ◌==◌, nat_le, nat_lt, not, Bool, ◌&&◌, ◌||◌, if◌then◌else◌, ℤ, pos, ◌+ℤ◌, unsigned_abs, List, [], ◌∷◌, slice_index, count_by}
+use Rattle.std.specs.Prelude.{ℕ, ◌+◌, ◌-◌, ◌*◌, ◌/◌, ◌%◌, ◌==◌, nat_le, nat_lt, not, Bool, ◌&&◌, ◌||◌, if◌then◌else◌, ℤ, pos, ◌+ℤ◌, ◌-ℤ◌, ◌*ℤ◌, unsigned_abs, List, [], ◌∷◌, slice_index, count_by}
 use Rattle.std.specs.Int.{int_div_euclid, int_rem_euclid}
 
 -- a day from 1970-01-01 as one from 0001-01-01
 unfoldable pub from_year_one : ℤ → ℕ
 from_year_one day = unsigned_abs (day +ℤ pos 719162)
+
+-- a day from 0001-01-01 as one from 1970-01-01
+abbrev pub from_1970 : ℕ → ℤ
+from_1970 day = pos day -ℤ pos 719162
+
+-- the first second of a day, both from 1970-01-01
+abbrev pub midnight : ℤ → ℤ
+midnight day = day *ℤ pos 86400
 
 -- the day and the second of the day of a moment
 unfoldable pub day_of_moment : ℤ → ℤ

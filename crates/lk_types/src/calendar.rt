@@ -28,7 +28,8 @@ pub(crate) fn year_of(day: u64) -> u64
 #[tactic(auto, unfolding(crate::specs::Calendar::month_of))]
 pub(crate) fn month_of(year: u64, day: u64) -> u64
     requires { year < 2 ^ 50 }
-    ensures { result ≡ month_of year day }
+    ensures month { result ≡ month_of year day }
+    ensures bound { result ≤ 12 }
 {
     MONTHS
         .iter()

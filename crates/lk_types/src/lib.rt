@@ -1,21 +1,34 @@
-//! What a model, a query and an answer are, the definitions of what a query answers, and the plain program that
-//! computes it.
+//! The types of a resolved model, a query and an answer, and what a query answers.
 #![tactic(auto)]
 
+mod answer;
+mod bound;
 mod calendar;
+mod examples;
 mod explore;
-mod grouping;
-mod laws;
+mod expr;
+mod filter;
+mod model;
+mod number;
 mod printing;
-mod query;
+mod rows;
 mod schema;
-mod totals;
 
-pub use explore::{Bound, Explore, Field, Measure, Op, Pick};
-pub use laws::orders_are_answered;
+pub use answer::{Answer, GroupRow, KeyValue, Partial, Reply, Route, RouteFrom};
+pub use bound::{Bound, Plan, Query, Sort};
+pub use examples::{
+    shop_queries_are_answered, shop_filters_and_sorts_apply, conflicts_are_of_visible_rows, tables_are_joined, derived_tables_are_answers, expressions_are_computed, timeframes_are_computed, filters_pass_values, rollups_fit_and_regroup, wrong_definitions_differ,
+};
+pub use explore::{
+    Explore, Field, Join, JoinKind, Measure, Op, Origin, Part, Relation, Rollup, Shape,
+};
+pub use expr::{Args, Arithmetic, Branches, Comparison, Expr, Node, Piece};
+pub use filter::{Days, Edge, End, Filter, Period, Test};
+pub use model::{Datagroup, Derived, Model, Pick, Trigger};
+pub use number::{NumArgs, NumExpr, NumNode};
 pub use printing::print_cell;
-pub use query::{Table, answer};
-pub use schema::{ColumnDef, Kind, TableDef};
+pub use rows::{Joined, Tables};
+pub use schema::{ColumnDef, Frame, Kind, Schema, TableDef};
 
 #[cfg(test)]
 mod tests;

@@ -1,5 +1,5 @@
 use Rattle.std.proofs.Common.{◌≡◌, ◌++◌, drop, map}
-use Rattle.lk_types.specs.Rows.{cell_at}
+use Rattle.lk_plain.specs.Rows.{cell_at}
 use Rattle.lk_project.proofs.keys.copy_cells.Given as goal
 
 abbrev pub invariant-loop-row : goal.invariant-loop-row

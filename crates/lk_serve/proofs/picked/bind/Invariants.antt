@@ -1,6 +1,6 @@
 use Rattle.std.proofs.Common.{◌≡◌, drop}
 use Rattle.std.specs.Prelude.{All}
-use Rattle.lk_types.specs.Answers.{IsPick}
+use Rattle.lk_plain.specs.Answers.{IsPick}
 use Rattle.lk_serve.specs.Picked.{bound_by}
 use Rattle.lk_serve.proofs.Fronts.{prefixed_binding}
 use Rattle.lk_serve.proofs.picked.bind.Given as goal

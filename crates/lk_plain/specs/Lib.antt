@@ -1,0 +1,5 @@
+pub mod Rows
+pub mod Measures
+pub mod Answers
+pub mod Grouping
+pub mod Examples

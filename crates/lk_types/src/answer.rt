@@ -1,0 +1,60 @@
+use lk_val::{Bytes, Cell, Items, Value};
+
+/// What a row gives to a measure: a key, or none for the row's place, and a value. `counts` is false
+/// where the row does not pass the measure's filters.
+#[derive(Debug, Drop)]
+pub struct KeyValue {
+    pub key: Option<Value>,
+    pub value: Value,
+    pub counts: bool,
+}
+
+/// A group with a cell for each measure.
+#[derive(Debug, Drop)]
+pub struct GroupRow {
+    pub group: Items<Value>,
+    pub cells: Items<Cell>,
+}
+
+/// The answer of a bound query.
+#[derive(Debug, Drop)]
+pub enum Answer {
+    /// The measure has two values for the key in one group.
+    Duplicate(u32, Value),
+    /// The rows, and whether these are all.
+    Table(Items<Items<Cell>>, bool),
+}
+
+/// The parts from which a measure is put together, for a group and a measure of a rollup.
+#[derive(Debug, Drop)]
+pub struct Partial {
+    pub count: u64,
+    pub sum: i128,
+    pub values: u64,
+    pub least: Value,
+    pub most: Value,
+    pub distinct: u64,
+}
+
+/// Which state answers a query, and from what.
+#[derive(Clone, Copy, Debug, PartialEq, Eq)]
+pub struct Route {
+    pub number: u64,
+    pub from: RouteFrom,
+}
+
+/// The current tables, the tables of a datagroup's build, or a rollup.
+#[derive(Clone, Copy, Debug, PartialEq, Eq)]
+pub enum RouteFrom {
+    Current,
+    Build(u32),
+    Rollup(u32),
+}
+
+/// A reply to a request: its HTTP status, whether the body is CSV or else JSON, and the body.
+#[derive(Debug, Drop)]
+pub struct Reply {
+    pub status: u16,
+    pub csv: bool,
+    pub body: Bytes,
+}
