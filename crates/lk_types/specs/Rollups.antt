@@ -1,7 +1,7 @@
 -- Which rollups fit a query, how a query is routed, and what a rollup keeps.
-use Rattle.std.specs.Prelude.{ℕ, zero, suc, ◌+◌, ◌==◌, nat_lt, nat_le, Bool, true, false, not, ◌&&◌, ◌||◌, if◌then◌else◌, pos, ◌+ℤ◌, List, [], ◌∷◌, ◌++◌, map, filter, flat_map, length, slice_index, slice_index_or, Option, Some, None}
+use Rattle.std.specs.Prelude.{◌≡◌, ℕ, zero, suc, ◌+◌, ◌==◌, nat_lt, nat_le, Bool, true, false, not, ◌&&◌, ◌||◌, if◌then◌else◌, pos, ◌+ℤ◌, List, [], ◌∷◌, ◌++◌, map, filter, flat_map, length, slice_index, slice_index_or, Option, Some, None}
 use Rattle.std.specs.List.{list_any, list_all, enumerate_from}
-use Rattle.lk_val.specs.Least.{least_set}
+use Rattle.lk_val.specs.Least.{is_in, least_set}
 use Rattle.lk_val.specs.declared.value.Value.{Value}
 use Rattle.lk_val.specs.declared.value.Value.TheVariants as value
 use Rattle.lk_val.specs.declared.cell.Cell.{Cell}
@@ -122,10 +122,17 @@ stands x joins v known (determined w) =
 stands x joins v known (present w) =
     (w == v) || (not (has_full x joins) && joins_view joins w && list_any (λ j. (finds_joined x known w j && is_inner (join_at x j).kind) || finds_earlier x known w j) joins)
 
--- the least set that the rules keep
+-- what may be said of the views
+abbrev pub all_standings : Explore → List Standing
+all_standings x = map determined (numbers_below (length x.parts)) ++ map present (numbers_below (length x.parts))
+
+-- what the rules say of the known is known
+abbrev pub AreClosedUnderRules : Explore → List ℕ → ℕ → List Standing → Type 0
+AreClosedUnderRules x joins v known = (s : Standing) → is_in is_same_standing s (all_standings x) ≡ true → stands x joins v known s ≡ true → is_in is_same_standing s known ≡ true
+
+-- the least set that is closed under the rules
 abbrev pub standings : Explore → List ℕ → ℕ → List Standing
-standings x joins v =
-    let views = numbers_below (length x.parts) in least_set is_same_standing (map determined views ++ map present views) (stands x joins v)
+standings x joins v = least_set is_same_standing (all_standings x) (stands x joins v)
 
 -- the views that the key of v determines over the joins, ascending
 abbrev pub determined_views : Explore → List ℕ → ℕ → List ℕ

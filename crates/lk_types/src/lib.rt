@@ -8,6 +8,7 @@ mod examples;
 mod explore;
 mod expr;
 mod filter;
+mod laws;
 mod model;
 mod number;
 mod printing;
@@ -24,6 +25,10 @@ pub use explore::{
 };
 pub use expr::{Args, Arithmetic, Branches, Comparison, Expr, Node, Piece};
 pub use filter::{Days, Edge, End, Filter, Period, Test};
+pub use laws::{
+    answers_are_isolated, determined_views_are_least, each_row_has_one_group,
+    expressions_read_what_they_mention, needed_joins_are_least, pairs_are_a_set,
+};
 pub use model::{Datagroup, Derived, Model, Pick, Trigger};
 pub use number::{NumArgs, NumExpr, NumNode};
 pub use printing::print_cell;

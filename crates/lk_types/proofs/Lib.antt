@@ -1,0 +1,6 @@
+pub mod JoinLaws
+pub mod StandingLaws
+pub mod MentionLaws
+pub mod IsolationLaws
+pub mod PairLaws
+pub mod GroupLaws
