@@ -27,14 +27,18 @@ pub record IsReduced (f : Fraction) : Type 0 where
   pub lowest : gcd (unsigned_abs f.n) (unsigned_abs f.d) ≡ 1
 
 -- n / d in lowest terms, for d above 0
-abbrev pub reduced : ℤ → ℤ → Fraction
+unfoldable pub reduced : ℤ → ℤ → Fraction
 reduced n d = let g = pos (gcd (unsigned_abs n) (unsigned_abs d)) in record { n = int_div n g; d = int_div d g }
 
 -- ---- arithmetic. It gives no fraction where a number that is formed on the way is not one of 128 bits
 
 -- the number is one of 128 bits
-abbrev pub fits_128 : ℤ → Bool
+unfoldable pub fits_128 : ℤ → Bool
 fits_128 z = int_le (neg_ℤ (pos (2 ^ 127))) z && int_lt z (pos (2 ^ 127))
+
+-- the number, where it is one of 128 bits
+abbrev pub fitting : ℤ → Option ℤ
+fitting z = if fits_128 z then Some z else None
 
 -- n / d, where the numbers formed on the way are of 128 bits and d is not 0
 abbrev pub fraction : List ℤ → ℤ → ℤ → Option Fraction

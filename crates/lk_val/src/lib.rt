@@ -4,11 +4,13 @@
 mod bytes;
 mod cell;
 mod distinct;
+mod divisor;
 mod fault;
 mod frac;
 mod items;
 mod memory;
 mod num;
+mod ratio;
 mod sets;
 mod text;
 mod tuple;

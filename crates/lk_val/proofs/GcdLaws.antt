@@ -1,0 +1,65 @@
+-- The greatest common divisor by Euclid's remainders, and what it leaves of the two numbers.
+use Rattle.std.proofs.Common.{◌≡◌, ℕ, zero, suc, ◌<◌, ◌≤◌, ◌*◌, ◌/◌, ◌%◌, refl, subst, arith, le_trans, le_of_mul-le-mul_right}
+use Rattle.std.proofs.Math.Nat.{div-mul_cancel, mul-dvd-mul_right}
+use Rattle.std.specs.Int.{IsGcd, ◌∣◌}
+use Rattle.std.proofs.lemmas.Nat.Gcd.{IsGcd-from_zero, IsGcd-from_mod, IsGcd-swap, same_from_IsGcd, dvd-zero, dvd_antisymm, le_of_dvd}
+use Rattle.lk_val.specs.Fractions.{gcd, gcd_within}
+
+gcd_within-is : (n a b : ℕ) → b < n → IsGcd a b (gcd_within n a b)
+gcd_within-is zero a b h = absurd (omega arith)
+gcd_within-is (suc n) a zero h = IsGcd-from_zero a 0 refl
+gcd_within-is (suc n) a (suc b) h = IsGcd-from_mod a (suc b) _ (gcd_within-is n (suc b) (a % suc b) (omega arith))
+
+pub gcd-is : (a b : ℕ) → IsGcd a b (gcd a b)
+unfolding gcd
+gcd-is a b = gcd_within-is (suc b) a b (omega arith)
+
+-- a step of the loop
+pub gcd-step : (a b : ℕ) → gcd b (a % b) ≡ gcd a b
+gcd-step a b = same_from_IsGcd a b _ _ (IsGcd-from_mod a b _ (gcd-is b (a % b))) (gcd-is a b)
+
+pub gcd-zero : (a : ℕ) → gcd a 0 ≡ a
+gcd-zero a = same_from_IsGcd a 0 _ _ (gcd-is a 0) (IsGcd-from_zero a 0 refl)
+
+pub gcd-comm : (a b : ℕ) → gcd a b ≡ gcd b a
+gcd-comm a b = same_from_IsGcd b a _ _ (IsGcd-swap a b _ (gcd-is a b)) (gcd-is b a)
+
+pub gcd-positive : (a b : ℕ) → 0 < b → 0 < gcd a b
+gcd-positive a b h = positive (gcd a b) (gcd-is a b).1
+  where
+    positive : (g : ℕ) → g ∣ b → 0 < g
+    positive zero d =
+        let none : zero ≡ b = dvd_antisymm d (dvd-zero b) in
+        absurd (omega arith)
+    positive (suc g) d = omega arith
+
+pub gcd-small : (a b : ℕ) → 0 < b → gcd a b ≤ b
+gcd-small a b h = le_of_dvd h (gcd-is a b).1
+
+pub ruleset gcd_laws = (gcd-step, gcd-zero, gcd-positive, gcd-small)
+
+-- ---- what it leaves of the two numbers
+
+one_of_product : (k g : ℕ) → 0 < k → 0 < g → k * g ∣ g → k ≡ 1
+one_of_product k g pk pg d =
+    let small : k * g ≤ 1 * g = le_trans (le_of_dvd pg d) (omega arith) in
+    let one : k ≤ 1 = le_of_mul-le-mul_right small pg in
+    omega arith
+
+pub positive-quotient : (b g : ℕ) → 0 < b → g ∣ b → 0 < b / g
+positive-quotient b g pb d = some (b / g) (div-mul_cancel g d)
+  where
+    some : (n : ℕ) → n * g ≡ b → 0 < n
+    some zero e = absurd (omega arith)
+    some (suc n) e = omega arith
+
+-- nothing but 1 divides both quotients
+pub gcd-divided : (a b : ℕ) → 0 < b → gcd (a / gcd a b) (b / gcd a b) ≡ 1
+gcd-divided a b h =
+    let g = gcd a b in
+    let k = gcd (a / g) (b / g) in
+    let is = gcd-is a b in
+    let inner = gcd-is (a / g) (b / g) in
+    let first : k * g ∣ a = subst (λ m. k * g ∣ m) (div-mul_cancel g is.0) (mul-dvd-mul_right k inner.0 g) in
+    let second : k * g ∣ b = subst (λ m. k * g ∣ m) (div-mul_cancel g is.1) (mul-dvd-mul_right k inner.1 g) in
+    one_of_product k g (gcd-positive (a / g) (b / g) (positive-quotient b g h is.1)) (gcd-positive a b h) (is.2 (k * g) first second)

@@ -1,0 +1,22 @@
+use Rattle.std.proofs.Common.{◌≡◌, ◌∙◌, ap, Some, rules}
+use Rattle.lk_val.specs.Fractions.{frac_mul}
+use Rattle.lk_val.proofs.FractionSteps.{passed, handed, handed-is, positive-passed, product-done, positive-below}
+use Rattle.lk_val.proofs.frac.Frac.mul.Goals as goal
+
+pub new-requires : goal.new-requires
+new-requires c =
+    let a = c.self.inside in
+    let b = c.other.inside in
+    positive-below (passed a.n) (passed a.d) (passed b.n) (passed b.d) c.in_ok-below.below c.in_ok-below.ensures
+    (positive-passed a.d (search rules) c.self.invariant.positive) (positive-passed b.d (search rules) c.other.invariant.positive)
+
+pub returns : goal.returns
+returns c =
+    let a = c.self.inside in
+    let b = c.other.inside in
+    let first : handed a.n a.d ≡ c.args.self = handed-is a.n a.d c.args.self (search rules) (search rules) c.self.view_is in
+    let second : handed b.n b.d ≡ c.args.other = handed-is b.n b.d c.args.other (search rules) (search rules) c.other.view_is in
+    ap Some c.new.ensures
+    ∙ product-done (passed a.n) (passed a.d) (passed b.n) (passed b.d) c.in_ok-above.above c.in_ok-below.below c.in_ok-above.ensures c.in_ok-below.ensures
+    (positive-passed a.d (search rules) c.self.invariant.positive) (positive-passed b.d (search rules) c.other.invariant.positive)
+    ∙ (λ i. frac_mul (first i) (second i))
