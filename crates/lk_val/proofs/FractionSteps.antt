@@ -9,11 +9,11 @@ use Rattle.std.proofs.lemmas.Bool.Decides.{Decides-int_eq}
 use Rattle.lk_val.proofs.GcdLaws.{gcd-is, gcd-divided, positive-quotient}
 use Rattle.lk_val.specs.Fractions.{Fraction, IsReduced, gcd, fits_128, fitting, reduced, fraction, frac_add, frac_sub, frac_mul, frac_div}
 
-both : (a b : Bool) → (a && b) ≡ true → (a ≡ true) × (b ≡ true)
+pub both : (a b : Bool) → (a && b) ≡ true → (a ≡ true) × (b ≡ true)
 both true b h = (refl, h)
 both false b h = absurd (false≢true h)
 
-together : {a b : Bool} → a ≡ true → b ≡ true → (a && b) ≡ true
+pub together : {a b : Bool} → a ≡ true → b ≡ true → (a && b) ≡ true
 together p q = ap₂ (λ a b. a && b) p q
 
 T-true : (b : Bool) → T b → b ≡ true

@@ -2,6 +2,7 @@ pub mod GcdLaws
 pub mod FractionSteps
 pub mod RatioLaws
 pub mod FractionOrder
+pub mod RoundingSteps
 pub mod SetLaws
 pub mod LeastLaws
 pub mod ValueLaws

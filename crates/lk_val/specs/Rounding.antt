@@ -1,12 +1,16 @@
 -- Rounding to a whole number, half away from zero, and numbers that are rounded to four places.
-use Rattle.std.specs.Prelude.{ℤ, pos, neg_ℤ, ◌+ℤ◌, ◌-ℤ◌, ◌*ℤ◌, ◌≡◌, ◌^◌, ◌&&◌, if◌then◌else◌, Option, Some, None, int_le, int_lt, int_div, unsigned_abs, ◌≤◌, ◌*◌}
+use Rattle.std.specs.Prelude.{ℕ, Bool, ℤ, pos, neg_ℤ, ◌+ℤ◌, ◌-ℤ◌, ◌*ℤ◌, ◌≡◌, ◌^◌, ◌&&◌, if◌then◌else◌, Option, Some, None, int_le, int_lt, unsigned_abs, ◌≤◌, ◌+◌, ◌*◌, ◌/◌}
 use Rattle.std.specs.Ordering.{int_eq}
 use Rattle.lk_val.specs.declared.num.Num.{Num}
 use Rattle.lk_val.specs.Fractions.{Fraction}
 
+-- the number of a sign and a size
+abbrev pub signed : Bool → ℕ → ℤ
+signed negative size = if negative then neg_ℤ (pos size) else pos size
+
 -- n / d rounded to a whole number, half away from zero; d is above 0
 unfoldable pub rounded : ℤ → ℤ → ℤ
-rounded n d = if int_lt n (pos 0) then neg_ℤ (int_div (pos 2 *ℤ neg_ℤ n +ℤ d) (pos 2 *ℤ d)) else int_div (pos 2 *ℤ n +ℤ d) (pos 2 *ℤ d)
+rounded n d = signed (int_lt n (pos 0)) ((2 * unsigned_abs n + unsigned_abs d) / (2 * unsigned_abs d))
 
 -- no whole number is nearer to n / d than r, and of two that are equally near r is the one away from zero
 pub record IsRounded (n d r : ℤ) : Type 0 where
@@ -14,7 +18,7 @@ pub record IsRounded (n d r : ℤ) : Type 0 where
   pub away : 2 * unsigned_abs (n -ℤ d *ℤ r) ≡ unsigned_abs d → unsigned_abs n ≤ unsigned_abs (d *ℤ r)
 
 -- the number of a count of 1/10,000, where it is one of 64 bits
-abbrev pub number_of : ℤ → Option Num
+unfoldable pub number_of : ℤ → Option Num
 number_of count = if int_le (neg_ℤ (pos (2 ^ 63))) count && int_lt count (pos (2 ^ 63)) then Some (record { 0 = count }) else None
 
 abbrev pub num_add : Num → Num → Option Num

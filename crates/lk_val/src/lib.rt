@@ -11,13 +11,14 @@ mod items;
 mod memory;
 mod num;
 mod ratio;
+mod rounding;
 mod sets;
 mod text;
 mod tuple;
 mod value;
 
 pub use bytes::Bytes;
-pub use cell::Cell;
+pub use cell::{Cell, cmp_cell};
 pub use distinct::do_differ;
 pub use fault::{FaultLine, ModelFault};
 pub use frac::Frac;

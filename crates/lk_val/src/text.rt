@@ -99,6 +99,14 @@ impl Text {
         Text { inner }
     }
 
+    /// The string of the text, which takes no memory.
+    pub fn into_string(self) -> String
+        ensures { string_bytes result ≡ self }
+    {
+        let Text { inner } = self;
+        inner
+    }
+
     /// The text as the language has it.
     pub fn as_str(&self) -> &str
         ensures { result.now ≡ self.now }
