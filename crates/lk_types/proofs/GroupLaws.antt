@@ -11,7 +11,8 @@ use Rattle.lk_val.specs.Values.{tuple_cmp, is_same_tuple}
 use Rattle.lk_val.specs.ValueOrder.{tuples_ordered}
 use Rattle.lk_val.specs.declared.value.Value.{Value}
 use Rattle.lk_val.proofs.SetLaws.{ties, has_not, has-set_of, IsStrictlySortedBy-set_of}
-use Rattle.lk_types.specs.Measures.{GivenRow, groups_of}
+use Rattle.lk_types.specs.Measures.{groups_of}
+use Rattle.lk_types.specs.declared.answer.GivenRow.{GivenRow}
 
 or_true : (b : Bool) → (b || true) ≡ true
 or_true true = refl

@@ -19,7 +19,9 @@ use Rattle.lk_val.specs.declared.value.Value.{Value}
 use Rattle.lk_val.specs.Sets.{IsExactOrder}
 use Rattle.lk_val.proofs.SetLaws.{IsCommutative, IsTotal, set_of_same, total-set_of-append}
 use Rattle.lk_val.specs.ValueOrder.{value_cmp-total, value_cmp-exact}
-use Rattle.lk_types.specs.Measures.{Pair, pair_cmp, pair_of, has_key, Entry, GivenRow, entry_at, entries_of, pairs_of, total, amount}
+use Rattle.lk_types.specs.Measures.{pair_cmp, pair_of, has_key, Entry, entry_at, entries_of, pairs_of, total, amount}
+use Rattle.lk_types.specs.declared.answer.Pair.{Pair}
+use Rattle.lk_types.specs.declared.answer.GivenRow.{GivenRow}
 use Rattle.lk_types.specs.declared.explore.Op.{Op}
 
 both_tie : (a b : Ordering) → ordering_then a b ≡ Equal → (a ≡ Equal) × (b ≡ Equal)

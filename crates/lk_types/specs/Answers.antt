@@ -14,9 +14,11 @@ use Rattle.lk_val.specs.declared.cell.Cell.{Cell}
 use Rattle.lk_val.specs.declared.cell.Cell.TheVariants as cell
 use Rattle.lk_types.specs.Calculation.{Calculation, OfMeasure, Number, Apply, Negate, Coalesce, NullIf, Calculations, no_more, more}
 use Rattle.lk_types.specs.Filters.{passes, passes_frac}
-use Rattle.lk_types.specs.Joins.{Sources, part_at}
+use Rattle.lk_types.specs.Joins.{part_at}
+use Rattle.lk_types.specs.declared.rows.Sources.{Sources}
 use Rattle.lk_types.specs.Rows.{tuple_of, passes_all, visible_rows, passing_rows}
-use Rattle.lk_types.specs.Measures.{GivenRow, uses_key, group_rows, conflicts_of}
+use Rattle.lk_types.specs.Measures.{uses_key, group_rows, conflicts_of}
+use Rattle.lk_types.specs.declared.answer.GivenRow.{GivenRow}
 use Rattle.lk_types.specs.Formula.{Formula}
 use Rattle.lk_types.specs.Expressions.{value_of}
 use Rattle.lk_types.specs.declared.rows.Joined.{Joined}

@@ -5,7 +5,8 @@ use Rattle.lk_val.specs.declared.value.Value.{Value}
 use Rattle.lk_val.specs.declared.cell.Cell.{Cell}
 use Rattle.lk_val.specs.declared.cell.Cell.TheVariants as cell
 use Rattle.lk_types.specs.Expressions.{mentions, value_of_num}
-use Rattle.lk_types.specs.Joins.{Sources, Rows, needed_joins, joined_rows, mentions_of, has_number}
+use Rattle.lk_types.specs.Joins.{Rows, needed_joins, joined_rows, mentions_of, has_number}
+use Rattle.lk_types.specs.declared.rows.Sources.{Sources}
 use Rattle.lk_types.specs.Rows.{field_at, passing_rows}
 use Rattle.lk_types.specs.Measures.{uses_key}
 use Rattle.lk_types.specs.Answers.{measure_at, key_of, dims_of, picked_measures, filtered, components_of, query_components, rows_grouped, lines_of}

@@ -13,13 +13,9 @@ use Rattle.lk_val.specs.declared.cell.Cell.TheVariants as cell
 use Rattle.lk_types.specs.declared.explore.Op.{Op}
 use Rattle.lk_types.specs.declared.explore.Op.TheVariants.{Count, CountDistinct, Sum, Average, Min, Max, SumDistinct, AverageDistinct, Number}
 use Rattle.lk_types.specs.declared.answer.KeyValue.{KeyValue}
+use Rattle.lk_types.specs.declared.answer.GivenRow.{GivenRow}
+use Rattle.lk_types.specs.declared.answer.Pair.{Pair}
 use Rattle.lk_types.specs.declared.answer.GroupRow.{GroupRow}
-
--- a row as it is given to the measures: its place, its group, and for each measure a key and a value
-pub record GivenRow : Type 0 where
-  pub place : ℕ
-  pub group : List Value
-  pub cells : List KeyValue
 
 -- what a row gives to one measure, with the row's place
 abbrev pub Entry : Type 0
@@ -36,10 +32,6 @@ abbrev pub entries_of : ℕ → List GivenRow → List Value → List Entry
 entries_of i rows group = filter (λ e. e.1.counts) (map (entry_at i) (filter (λ row. is_same_tuple row.group group) rows))
 
 -- ---- pairs
-
-pub record Pair : Type 0 where
-  pub key : Value
-  pub value : Value
 
 abbrev pub pair_cmp : Pair → Pair → Ordering
 pair_cmp a b = ordering_then (value_cmp a.key b.key) (value_cmp a.value b.value)

@@ -10,9 +10,11 @@ use Rattle.lk_types.specs.Formula.{Formula, Column, Compare}
 use Rattle.lk_types.specs.Expressions.{mentions, conjuncts}
 use Rattle.lk_types.specs.Timeframes.{is_had_from}
 use Rattle.lk_types.specs.Filters.{is_same_filter}
-use Rattle.lk_types.specs.Joins.{Sources, part_at, join_at, numbers_below, has_number, mentions_of, joined_rows}
+use Rattle.lk_types.specs.Joins.{part_at, join_at, numbers_below, has_number, mentions_of, joined_rows}
+use Rattle.lk_types.specs.declared.rows.Sources.{Sources}
 use Rattle.lk_types.specs.Rows.{field_at, passing_rows}
-use Rattle.lk_types.specs.Measures.{GivenRow, Entry, entries_of, groups_of, pairs_of, values_of_entries, total, known_count, average_cell, lesser, greater, least_of, greatest_of, distinct_values}
+use Rattle.lk_types.specs.Measures.{Entry, entries_of, groups_of, pairs_of, values_of_entries, total, known_count, average_cell, lesser, greater, least_of, greatest_of, distinct_values}
+use Rattle.lk_types.specs.declared.answer.GivenRow.{GivenRow}
 use Rattle.lk_types.specs.Answers.{measure_at, dims_of, filtered, components_of, query_components, given_rows, ops_of}
 use Rattle.lk_types.specs.Derived.{field_parts, joins_for, explore_at, derived_query}
 use Rattle.lk_types.specs.declared.rows.Joined.{Joined}

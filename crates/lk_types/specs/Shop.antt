@@ -4,7 +4,8 @@ use Rattle.lk_val.specs.declared.value.Value.{Value}
 use Rattle.lk_val.specs.declared.value.Value.TheVariants as value
 use Rattle.lk_types.specs.Calculation as calculation
 use Rattle.lk_types.specs.Formula.{Formula, Column, Compare, Literal, Not}
-use Rattle.lk_types.specs.Joins.{Sources, Rows}
+use Rattle.lk_types.specs.Joins.{Rows}
+use Rattle.lk_types.specs.declared.rows.Sources.{Sources}
 use Rattle.lk_types.specs.declared.expr.Arithmetic.TheVariants as arithmetic
 use Rattle.lk_types.specs.declared.expr.Comparison.TheVariants as comparison
 use Rattle.lk_types.specs.declared.expr.Piece.TheVariants as piece

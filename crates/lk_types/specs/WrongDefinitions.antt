@@ -5,7 +5,8 @@ use Rattle.lk_val.specs.Sets.{set_of}
 use Rattle.lk_val.specs.Values.{tuple_cmp, is_null}
 use Rattle.lk_val.specs.declared.value.Value.{Value}
 use Rattle.lk_val.specs.declared.value.Value.TheVariants as value
-use Rattle.lk_types.specs.Joins.{Sources, joined_rows}
+use Rattle.lk_types.specs.Joins.{joined_rows}
+use Rattle.lk_types.specs.declared.rows.Sources.{Sources}
 use Rattle.lk_types.specs.Rows.{tuple_of, passing_rows}
 use Rattle.lk_types.specs.Measures.{Entry, entry_at, pair_of, total, conflicts_of}
 use Rattle.lk_types.specs.Answers.{given_rows, ops_of, answer_over}

@@ -9,6 +9,22 @@ pub struct KeyValue {
     pub counts: bool,
 }
 
+/// A row as it is given to the measures: its place among the rows that pass, its group, and what it gives to each
+/// measure.
+#[derive(Debug, Drop)]
+pub struct GivenRow {
+    pub place: u64,
+    pub group: Items<Value>,
+    pub cells: Items<KeyValue>,
+}
+
+/// A primary key and the value that stands with it.
+#[derive(Debug, Drop)]
+pub struct Pair {
+    pub key: Value,
+    pub value: Value,
+}
+
 /// A group with a cell for each measure.
 #[derive(Debug, Drop)]
 pub struct GroupRow {

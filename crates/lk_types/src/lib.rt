@@ -15,7 +15,9 @@ mod printing;
 mod rows;
 mod schema;
 
-pub use answer::{Answer, GroupRow, KeyValue, Partial, Reply, Route, RouteFrom};
+pub use answer::{
+    Answer, GivenRow, GroupRow, KeyValue, Pair, Partial, Reply, Route, RouteFrom,
+};
 pub use bound::{Bound, Plan, Query, Sort};
 pub use examples::{
     shop_queries_are_answered, shop_filters_and_sorts_apply, conflicts_are_of_visible_rows, tables_are_joined, derived_tables_are_answers, expressions_are_computed, timeframes_are_computed, filters_pass_values, rollups_fit_and_regroup, wrong_definitions_differ,
@@ -32,7 +34,7 @@ pub use laws::{
 pub use model::{Datagroup, Derived, Model, Pick, Trigger};
 pub use number::{NumArgs, NumExpr, NumNode};
 pub use printing::print_cell;
-pub use rows::{Joined, Tables};
+pub use rows::{Joined, Sources, Tables};
 pub use schema::{ColumnDef, Frame, Kind, Schema, TableDef};
 
 #[cfg(test)]

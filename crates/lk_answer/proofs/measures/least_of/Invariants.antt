@@ -1,0 +1,10 @@
+use Rattle.std.proofs.Common.{◌≡◌, length}
+use Rattle.lk_types.specs.Measures.{lesser, least_of}
+use Rattle.lk_answer.proofs.ValueLemmas.{taken_into}
+use Rattle.lk_answer.proofs.measures.least_of.Given as goal
+
+abbrev pub invariant-loop-value : goal.invariant-loop-value
+invariant-loop-value l = taken_into lesser l.left.items l.least ≡ least_of l.fn.values
+
+abbrev pub decreases-loop-value : goal.decreases-loop-value
+decreases-loop-value l = length l.left.items
