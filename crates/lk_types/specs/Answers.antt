@@ -38,9 +38,11 @@ use Rattle.lk_types.specs.declared.answer.GroupRow.{GroupRow}
 use Rattle.lk_types.specs.declared.answer.Answer.{Answer}
 use Rattle.lk_types.specs.declared.answer.Answer.TheVariants.{Duplicate, Table}
 
+-- the measure past the end of an explore's measures
 abbrev pub no_measure : Measure
 no_measure = record { name = []; part = 0; op = op.Count; value = None; key = None; filters = []; number = None }
 
+-- the measure of a number
 abbrev pub measure_at : Explore → ℕ → Measure
 measure_at x m = slice_index_or x.measures m no_measure
 
@@ -79,16 +81,19 @@ parts_of_measure x (suc n) m = or_parts m (parts_of_measure x n) (measure_at x m
 abbrev pub components_of : Explore → List ℕ → List ℕ
 components_of x measures = first_each (flat_map (parts_of_measure x (length x.measures)) measures)
 
+-- the dimensions that are picked, in order
 abbrev pub dims_of : List Pick → List ℕ
 dims_of [] = []
 dims_of (Dim f ∷ picks) = f ∷ dims_of picks
 dims_of (Mea m ∷ picks) = dims_of picks
 
+-- the measures that are picked, in order
 abbrev pub picked_measures : List Pick → List ℕ
 picked_measures [] = []
 picked_measures (Dim f ∷ picks) = picked_measures picks
 picked_measures (Mea m ∷ picks) = m ∷ picked_measures picks
 
+-- what the filters are on
 abbrev pub filtered : List (ℕ × Filter) → List ℕ
 filtered filters = map (λ f. f.0) filters
 
@@ -98,10 +103,12 @@ query_components x b = components_of x (picked_measures b.picks ++ filtered b.ha
 
 -- ---- what rows give to measures
 
+-- the value of an expression, null where there is none
 abbrev pub optional_value : Option Formula → Joined → Value
 optional_value None row = value.Null
 optional_value (Some e) row = value_of e row
 
+-- the measure takes `sql_distinct_key` and no primary key
 abbrev pub has_own_key : Op → Bool
 has_own_key op.SumDistinct = true
 has_own_key op.AverageDistinct = true
@@ -111,6 +118,7 @@ has_own_key other = false
 abbrev pub key_of : Explore → Measure → Option Formula
 key_of x m = if has_own_key m.op then m.key else (part_at x m.part).key
 
+-- a part that has entered and is not null
 abbrev pub is_there : Option (Option (List Value)) → Bool
 is_there (Some (Some cells)) = true
 is_there part = false
@@ -132,6 +140,7 @@ key_value x m row = record {
   counts = passes_all x m.filters row && (not (is_placed m.op (key_of x m)) || has_part m.part row);
 }
 
+-- what a row at its place gives to a query's groups and measures
 abbrev pub given_row : Explore → List ℕ → List ℕ → ℕ × Joined → GivenRow
 given_row x dims measures row =
     record { place = row.0; group = tuple_of x dims row.1; cells = map (λ m. key_value x (measure_at x m) row.1) measures }
@@ -140,6 +149,7 @@ given_row x dims measures row =
 abbrev pub given_rows : Explore → List ℕ → List ℕ → List Joined → List GivenRow
 given_rows x dims measures passing = map (given_row x dims measures) (enumerate_from 0 passing)
 
+-- the types of some measures
 abbrev pub ops_of : Explore → List ℕ → List Op
 ops_of x measures = map (λ m. (measure_at x m).op) measures
 
@@ -147,25 +157,30 @@ ops_of x measures = map (λ m. (measure_at x m).op) measures
 abbrev pub rows_grouped : Explore → List ℕ → List ℕ → List Joined → List GroupRow
 rows_grouped x dims measures passing = group_rows (length dims) (ops_of x measures) (given_rows x dims measures passing)
 
+-- the conflicts among the passing rows
 abbrev pub conflicts_among : Explore → List ℕ → List ℕ → List Joined → List (ℕ × Value)
 conflicts_among x dims measures passing = conflicts_of (length dims) (ops_of x measures) (given_rows x dims measures passing)
 
 -- ---- `number` measures
 
+-- a number as a fraction, and none for any other value
 abbrev pub frac_of_value : Value → Option Fraction
 frac_of_value (value.Num n) = Some (frac_of_sum n.0)
 frac_of_value v = None
 
+-- a cell as a fraction
 abbrev pub frac_of_cell : Cell → Option Fraction
 frac_of_cell (cell.Value v) = frac_of_value v
 frac_of_cell (cell.Count n) = Some (frac_of_count n)
 frac_of_cell (cell.Sum s) = Some (frac_of_sum s)
 frac_of_cell (cell.Frac f) = Some f
 
+-- a fraction as a cell, null for none
 abbrev pub cell_of_frac : Option Fraction → Cell
 cell_of_frac None = cell.Value value.Null
 cell_of_frac (Some f) = cell.Frac f
 
+-- the four operations on fractions (lookd)
 abbrev pub applied : Arithmetic → Fraction → Fraction → Option Fraction
 applied arithmetic.Plus a b = frac_add a b
 applied arithmetic.Minus a b = frac_sub a b
@@ -177,10 +192,12 @@ abbrev pub with_both : (Fraction → Fraction → Option Fraction) → Option Fr
 with_both f (Some a) (Some b) = f a b
 with_both f a b = None
 
+-- the first of two that is known
 abbrev pub or_else : Option Fraction → Option Fraction → Option Fraction
 or_else None b = b
 or_else (Some a) b = Some a
 
+-- both are known and equal by their exact values
 abbrev pub are_equal : Option Fraction → Option Fraction → Bool
 are_equal (Some a) (Some b) = is_eq (frac_cmp a b)
 are_equal a b = false
@@ -203,6 +220,7 @@ abbrev mutual
 abbrev pub component_cell : List ℕ → List Cell → ℕ → Cell
 component_cell components cells m = slice_index_or cells (unwrap_or (position (nat_eq m) components) 0) (cell.Value value.Null)
 
+-- a measure's own cell, or what its calculation gives
 abbrev pub or_calculated : Cell → (ℕ → Option Fraction) → Option Calculation → Cell
 or_calculated c known None = c
 or_calculated c known (Some e) = cell_of_frac (calculated known e)
@@ -212,6 +230,7 @@ abbrev pub cell_within : Explore → ℕ → (ℕ → Cell) → ℕ → Cell
 cell_within x zero known m = known m
 cell_within x (suc n) known m = or_calculated (known m) (λ k. frac_of_cell (cell_within x n known k)) (measure_at x m).number
 
+-- the cell of a measure, a `number` through all others
 abbrev pub measure_cell : Explore → (ℕ → Cell) → ℕ → Cell
 measure_cell x known m = cell_within x (length x.measures) known m
 
@@ -224,9 +243,11 @@ line_cells x known (Dim f ∷ picks) [] = []
 line_cells x known (Dim f ∷ picks) (v ∷ group) = cell.Value v ∷ line_cells x known picks group
 line_cells x known (Mea m ∷ picks) group = measure_cell x known m ∷ line_cells x known picks group
 
+-- a group with its picked cells
 abbrev pub line_of : Explore → Bound → GroupRow → GroupRow
 line_of x b row = record { group = row.group; cells = line_cells x (component_cell (query_components x b) row.cells) b.picks row.group }
 
+-- a cell passes a filter: a count, a sum or a fraction by its exact value
 abbrev pub passes_cell : Filter → Cell → Bool
 passes_cell f (cell.Value v) = passes f v
 passes_cell f (cell.Count n) = passes_frac f (Some (frac_of_count n))
@@ -237,13 +258,16 @@ passes_cell f (cell.Frac q) = passes_frac f (Some q)
 abbrev pub passes_having : Explore → Bound → GroupRow → Bool
 passes_having x b row = list_all (λ f. passes_cell f.1 (measure_cell x (component_cell (query_components x b) row.cells) f.0)) b.having
 
+-- the cell at a place of a line
 abbrev pub cell_at : List Cell → ℕ → Cell
 cell_at cells place = slice_index_or cells place (cell.Value value.Null)
 
+-- the order, or the order turned round
 abbrev pub directed : Bool → Ordering → Ordering
 directed true o = ordering_reverse o
 directed false o = o
 
+-- cells by the sorts, one after the other
 abbrev pub cells_cmp : List Sort → List Cell → List Cell → Ordering
 cells_cmp [] a b = Equal
 cells_cmp (s ∷ sorts) a b = ordering_then (directed s.down (cell_cmp (cell_at a s.place) (cell_at b s.place))) (cells_cmp sorts a b)

@@ -18,6 +18,7 @@ midnight day = day *ℤ pos 86400
 unfoldable pub day_of_moment : ℤ → ℤ
 day_of_moment moment = int_div_euclid moment (pos 86400)
 
+-- the second of its day that a moment is
 unfoldable pub second_of_moment : ℤ → ℕ
 second_of_moment moment = unsigned_abs (int_rem_euclid moment (pos 86400))
 

@@ -24,6 +24,7 @@ use Rattle.lk_types.specs.declared.rows.Tables.{Tables}
 abbrev pub field_parts : Explore → ℕ → List ℕ
 field_parts x f = mentions (field_at x f).expr
 
+-- the parts that a measure's key mentions, where its type uses one
 abbrev pub key_parts : Explore → Measure → List ℕ
 key_parts x m = if uses_key m.op then mentions_of (key_of x m) else []
 
@@ -31,6 +32,7 @@ key_parts x m = if uses_key m.op then mentions_of (key_of x m) else []
 abbrev pub measure_parts : Explore → Measure → List ℕ
 measure_parts x m = (m.part ∷ key_parts x m) ++ mentions_of m.value ++ flat_map (field_parts x) (filtered m.filters)
 
+-- the parts that some fields and measures mention
 abbrev pub asked_parts : Explore → List ℕ → List ℕ → List ℕ
 asked_parts x fields measures = flat_map (field_parts x) fields ++ flat_map (λ m. measure_parts x (measure_at x m)) measures
 
@@ -40,9 +42,11 @@ joins_for x fields measures = needed_joins x (asked_parts x fields (components_o
 
 -- ---- derived tables
 
+-- the explore past the end of a model's explores
 abbrev pub no_explore : Explore
 no_explore = record { name = []; parts = []; joins = []; fields = []; measures = []; always_join = []; always = []; always_where = None; access = []; rollups = [] }
 
+-- the explore of a number
 abbrev pub explore_at : Model → ℕ → Explore
 explore_at m x = slice_index_or m.explores x no_explore
 
@@ -81,6 +85,7 @@ answer_rows x s b =
     map (λ line. map value_of_cell line.cells)
     (lines_of x b (rows_grouped x (dims_of b.picks) (query_components x b) (passing_rows x b.rows (joined_rows x s b.joins))))
 
+-- the rows of a derived table over the tables that it reads
 abbrev pub derived_rows : Model → Sources → Derived → Rows
 derived_rows m s d = answer_rows (explore_at m d.explore) s (derived_query (explore_at m d.explore) d)
 

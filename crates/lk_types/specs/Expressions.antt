@@ -24,6 +24,7 @@ abbrev pub value_in : Option (Option (List Value)) → ℕ → Value
 value_in (Some (Some cells)) column = slice_index_or cells column value.Null
 value_in part column = value.Null
 
+-- the value in a column of a part of a row
 abbrev pub column_of : Joined → ℕ → ℕ → Value
 column_of row part column = value_in (slice_get row.parts part) column
 
@@ -32,22 +33,27 @@ abbrev pub truth_of : Value → Option Bool
 truth_of (value.Truth b) = Some b
 truth_of v = None
 
+-- a truth value of three as a value: unknown is null
 abbrev pub value_of_truth : Option Bool → Value
 value_of_truth (Some b) = value.Truth b
 value_of_truth None = value.Null
 
+-- AND of three truth values
 abbrev pub and_of : Option Bool → Option Bool → Option Bool
 and_of (Some true) b = b
 and_of (Some false) b = Some false
 and_of None (Some false) = Some false
 and_of None b = None
 
+-- NOT of three truth values
 abbrev pub not_of : Option Bool → Option Bool
 not_of = option_map not
 
+-- OR of three truth values
 abbrev pub or_of : Option Bool → Option Bool → Option Bool
 or_of a b = not_of (and_of (not_of a) (not_of b))
 
+-- the value is yes, and neither no nor unknown
 abbrev pub is_true : Value → Bool
 is_true (value.Truth b) = b
 is_true v = false
@@ -57,6 +63,7 @@ abbrev pub beside : Value → Value → Value
 beside (value.Day d) (value.Moment m) = value.Moment (midnight d)
 beside v other = v
 
+-- a comparison holds of an order of two values
 abbrev pub holds : Comparison → Ordering → Bool
 holds comparison.Equal o = is_eq o
 holds comparison.NotEqual o = is_ne o
@@ -91,6 +98,7 @@ abbrev pub apply : Arithmetic → Value → Value → Value
 apply op (value.Num x) (value.Num y) = value_of_num (computed op x y)
 apply op a b = value.Null
 
+-- a number with the other sign, null out of range
 abbrev pub negated : Value → Value
 negated (value.Num x) = value_of_num (num_neg x)
 negated v = value.Null
@@ -100,13 +108,16 @@ abbrev pub joined_text : Value → Value → Value
 joined_text (value.Text a) (value.Text b) = if nat_le (length (a ++ b)) 4096 then value.Text (a ++ b) else value.Null
 joined_text a b = value.Null
 
+-- a function of texts, null for any other value
 abbrev pub on_text : (List ℕ → List ℕ) → Value → Value
 on_text f (value.Text t) = value.Text (f t)
 on_text f v = value.Null
 
+-- a letter of ASCII in lower case
 abbrev pub ascii_lower : ℕ → ℕ
 ascii_lower c = if is_ascii_uppercase c then c + 32 else c
 
+-- a letter of ASCII in upper case
 abbrev pub ascii_upper : ℕ → ℕ
 ascii_upper c = if is_ascii_lowercase c then c - 32 else c
 
@@ -130,14 +141,17 @@ matches (One ∷ pieces) (c ∷ cs) = matches pieces (after_character cs)
 matches (Byte b ∷ pieces) [] = false
 matches (Byte b ∷ pieces) (c ∷ cs) = (b == c) && matches pieces cs
 
+-- a text matches a pattern; unknown for any other value
 abbrev pub like : Value → List Piece → Option Bool
 like (value.Text t) pieces = Some (matches pieces t)
 like v pieces = None
 
+-- the first value that is not null
 abbrev pub first_known : List Value → Value
 first_known [] = value.Null
 first_known (v ∷ vs) = if is_null v then first_known vs else v
 
+-- true, and neither false nor unknown
 abbrev pub is_true_truth : Option Bool → Bool
 is_true_truth (Some b) = b
 is_true_truth None = false

@@ -27,10 +27,12 @@ use Rattle.lk_types.specs.declared.filter.Test.TheVariants as test
 abbrev pub compares : Fraction → Comparison → Num → Bool
 compares x c n = holds c (frac_cmp x (record { n = n.0; d = pos 10000 }))
 
+-- at or above a bound, where there is one
 abbrev pub at_least : Fraction → Option Num → Bool
 at_least x None = true
 at_least x (Some n) = compares x comparison.AtLeast n
 
+-- at or below a bound, where there is one
 abbrev pub at_most : Fraction → Option Num → Bool
 at_most x None = true
 at_most x (Some n) = compares x comparison.AtMost n
@@ -42,6 +44,7 @@ is_above x Highest closed = false
 is_above x (At n) true = compares x comparison.AtLeast n
 is_above x (At n) false = compares x comparison.Greater n
 
+-- below the upper end of an interval, or at it where the end belongs to the interval
 abbrev pub is_below : Fraction → Edge → Bool → Bool
 is_below x Lowest closed = false
 is_below x Highest closed = true
@@ -64,16 +67,19 @@ day_meets d (test.After days) = int_le days.from d
 day_meets d (test.FromTo first last) = int_le first.from d && int_lt d last.from
 day_meets d t = false
 
+-- a text meets a pattern; the empty text meets `EMPTY`
 abbrev pub text_meets : List ℕ → Test → Bool
 text_meets t (test.Like pieces) = matches pieces t
 text_meets [] test.Empty = true
 text_meets t other = false
 
+-- a truth value meets an equal one
 abbrev pub truth_meets : Bool → Test → Bool
 truth_meets true (test.Truth b) = b
 truth_meets false (test.Truth b) = not b
 truth_meets v t = false
 
+-- null meets `NULL` and `EMPTY`, and no other test
 abbrev pub null_meets : Test → Bool
 null_meets test.Null = true
 null_meets test.Empty = true
@@ -92,6 +98,7 @@ meets (value.Moment m) t = day_meets (day_of_moment m) t
 abbrev pub passes_by : (Test → Bool) → Filter → Bool
 passes_by met f = (not (list_any (λ t. true) f.include) || list_any met f.include) && not (list_any met f.exclude)
 
+-- a value passes a filter (Looker, filter expressions)
 abbrev pub passes : Filter → Value → Bool
 passes f v = passes_by (meets v) f
 
@@ -102,9 +109,11 @@ passes_frac f (Some x) = passes_by (number_meets x) f
 
 -- ---- relative dates. The units of a period are numbered from the first of year 1
 
+-- the months from the first of year 1 up to the month of a day
 abbrev pub month_number : ℕ → ℕ
 month_number n = 12 * (year_of n - 1) + (month_of (year_of n) n - 1)
 
+-- the number of the unit that a day is in
 abbrev pub unit_of : Period → ℕ → ℕ
 unit_of Day n = n
 unit_of Week n = n / 7
@@ -112,6 +121,7 @@ unit_of Month n = month_number n
 unit_of Quarter n = month_number n / 3
 unit_of Year n = year_of n - 1
 
+-- the first day of a unit
 abbrev pub unit_start : Period → ℕ → ℕ
 unit_start Day i = i
 unit_start Week i = 7 * i
@@ -141,15 +151,18 @@ placed now f =
 
 -- ---- sameness
 
+-- two pieces of patterns are the same
 abbrev pub is_same_piece : Piece → Piece → Bool
 is_same_piece piece.Any piece.Any = true
 is_same_piece piece.One piece.One = true
 is_same_piece (piece.Byte b) (piece.Byte c) = b == c
 is_same_piece p q = false
 
+-- two numbers are the same
 abbrev pub is_same_num : Num → Num → Bool
 is_same_num m n = int_eq m.0 n.0
 
+-- two comparisons are the same
 abbrev pub is_same_comparison : Comparison → Comparison → Bool
 is_same_comparison comparison.Equal comparison.Equal = true
 is_same_comparison comparison.NotEqual comparison.NotEqual = true
@@ -159,17 +172,20 @@ is_same_comparison comparison.Greater comparison.Greater = true
 is_same_comparison comparison.AtLeast comparison.AtLeast = true
 is_same_comparison c d = false
 
+-- two bounds are the same, or both are left out
 abbrev pub is_same_bound : Option Num → Option Num → Bool
 is_same_bound None None = true
 is_same_bound (Some m) (Some n) = is_same_num m n
 is_same_bound m n = false
 
+-- two intervals end at the same number, or at the same infinity
 abbrev pub is_same_edge : Edge → Edge → Bool
 is_same_edge Lowest Lowest = true
 is_same_edge (At m) (At n) = is_same_num m n
 is_same_edge Highest Highest = true
 is_same_edge e f = false
 
+-- two truth values are the same
 abbrev pub is_same_truth : Bool → Bool → Bool
 is_same_truth true b = b
 is_same_truth false b = not b
@@ -178,6 +194,7 @@ is_same_truth false b = not b
 abbrev pub is_same_end : End → End → Bool
 is_same_end a b = is_same_edge a.edge b.edge && is_same_truth a.closed b.closed
 
+-- two spans of days are the same
 abbrev pub is_same_days : Days → Days → Bool
 is_same_days a b = int_eq a.from b.from && int_eq a.up_to b.up_to
 
@@ -197,6 +214,7 @@ is_same_test (test.FromTo a b) (test.FromTo c d) = is_same_days a c && is_same_d
 is_same_test (test.Truth a) (test.Truth b) = is_same_truth a b
 is_same_test s t = false
 
+-- each test of the first list is in the second
 abbrev pub are_among : List Test → List Test → Bool
 are_among xs ys = list_all (λ x. list_any (is_same_test x) ys) xs
 

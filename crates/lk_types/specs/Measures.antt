@@ -21,9 +21,11 @@ use Rattle.lk_types.specs.declared.answer.GroupRow.{GroupRow}
 abbrev pub Entry : Type 0
 Entry = ℕ × KeyValue
 
+-- what a row gives to a measure that it has nothing for
 abbrev pub no_entry : KeyValue
 no_entry = record { key = None; value = value.Null; counts = false }
 
+-- what a row gives to the measure at place i, with the row's place
 abbrev pub entry_at : ℕ → GivenRow → Entry
 entry_at i row = (row.place, slice_index_or row.cells i no_entry)
 
@@ -33,6 +35,7 @@ entries_of i rows group = filter (λ e. e.1.counts) (map (entry_at i) (filter (�
 
 -- ---- pairs
 
+-- pairs by key, and then by value
 abbrev pub pair_cmp : Pair → Pair → Ordering
 pair_cmp a b = ordering_then (value_cmp a.key b.key) (value_cmp a.value b.value)
 
@@ -46,9 +49,11 @@ abbrev pub unless_counted : Op → Value → Value
 unless_counted Count v = value.Null
 unless_counted op v = v
 
+-- an entry as a pair of key and value
 abbrev pub pair_of : Op → Entry → Pair
 pair_of op e = record { key = key_or_place e.1.key e.0; value = unless_counted op e.1.value }
 
+-- the key is not null
 abbrev pub has_key : Pair → Bool
 has_key p = not (is_null p.key)
 
@@ -56,6 +61,7 @@ has_key p = not (is_null p.key)
 abbrev pub pairs_of : Op → List Entry → List Pair
 pairs_of op entries = set_of pair_cmp (filter has_key (map (pair_of op) entries))
 
+-- the measure is taken over pairs of key and value
 abbrev pub uses_key : Op → Bool
 uses_key Count = true
 uses_key Sum = true
@@ -77,6 +83,7 @@ conflict_keys op entries = if uses_key op then map (λ p. p.key) (filter (has_ot
 
 -- ---- cells
 
+-- a number's count of 1/10,000, and nothing of any other value
 abbrev pub amount : Value → ℤ
 amount (value.Num n) = n.0
 amount v = pos 0
@@ -86,6 +93,7 @@ abbrev pub total : List Pair → ℤ
 total [] = pos 0
 total (p ∷ ps) = amount p.value +ℤ total ps
 
+-- how many of the pairs' values are not null
 abbrev pub known_count : List Pair → ℕ
 known_count pairs = count_by (λ p. not (is_null p.value)) pairs
 
@@ -97,13 +105,16 @@ average_cell sum count = if count == 0 then cell.Value value.Null else cell.Frac
 abbrev pub lesser : Value → Value → Value
 lesser = first_of null_last_cmp
 
+-- the greater of two values, of which null is neither: null comes first
 abbrev pub greater : Value → Value → Value
 greater = first_of (flip_args value_cmp)
 
+-- the least value, null for none
 abbrev pub least_of : List Value → Value
 least_of [] = value.Null
 least_of (v ∷ vs) = lesser v (least_of vs)
 
+-- the greatest value, null for none
 abbrev pub greatest_of : List Value → Value
 greatest_of [] = value.Null
 greatest_of (v ∷ vs) = greater v (greatest_of vs)
@@ -112,6 +123,7 @@ greatest_of (v ∷ vs) = greater v (greatest_of vs)
 abbrev pub distinct_values : List Value → List Value
 distinct_values values = set_of value_cmp (filter (λ v. not (is_null v)) values)
 
+-- the values that entries have
 abbrev pub values_of_entries : List Entry → List Value
 values_of_entries entries = map (λ e. e.1.value) entries
 

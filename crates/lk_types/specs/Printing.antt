@@ -15,9 +15,11 @@ use Rattle.lk_types.specs.declared.schema.Frame.TheVariants as frame
 use Rattle.lk_types.specs.declared.explore.Shape.{Shape}
 use Rattle.lk_types.specs.declared.explore.Shape.TheVariants as shape
 
+-- a number below 100 in two digits
 abbrev pub two_digits : ℕ → List ℕ
 two_digits n = decimal (n / 10 % 10) ++ decimal (n % 10)
 
+-- a number below 10,000 in four digits
 abbrev pub four_digits : ℕ → List ℕ
 four_digits n = decimal (n / 1000) ++ decimal (n / 100 % 10) ++ two_digits n
 
@@ -45,9 +47,11 @@ value_text (value.Moment moment) = date_text (from_year_one (day_of_moment momen
 unfoldable pub month_text : ℕ → List ℕ
 month_text day = four_digits (year_of day) ++ codes "-" ++ two_digits (month_of (year_of day) day)
 
+-- the quarter of a day as `YYYY-Qn`
 unfoldable pub quarter_text : ℕ → List ℕ
 quarter_text day = four_digits (year_of day) ++ codes "-Q" ++ decimal ((month_of (year_of day) day + 2) / 3)
 
+-- the year of a day as `YYYY`
 unfoldable pub year_text : ℕ → List ℕ
 year_text day = four_digits (year_of day)
 
@@ -62,6 +66,7 @@ frame_text f v = value_text v
 abbrev pub is_bound_above : ℤ → ℤ → Bool
 is_bound_above count bound = int_lt count (bound *ℤ pos 10000)
 
+-- the bound of a number
 abbrev pub bound_at : List ℤ → ℕ → ℤ
 bound_at bounds i = slice_index_or bounds i (pos 0)
 

@@ -45,17 +45,21 @@ pub data Standing : Type 0 where
   determined : ℕ → Standing
   present : ℕ → Standing
 
+-- two standings say the same of the same view
 abbrev pub is_same_standing : Standing → Standing → Bool
 is_same_standing (determined v) (determined w) = v == w
 is_same_standing (present v) (present w) = v == w
 is_same_standing s t = false
 
+-- the view is among those known to be determined
 abbrev pub is_determined_in : List Standing → ℕ → Bool
 is_determined_in known w = list_any (is_same_standing (determined w)) known
 
+-- the view is among those known to be present
 abbrev pub is_present_in : List Standing → ℕ → Bool
 is_present_in known w = list_any (is_same_standing (present w)) known
 
+-- there is a number, and it is this one
 abbrev pub is_number : Option ℕ → ℕ → Bool
 is_number None n = false
 is_number (Some m) n = m == n
@@ -74,25 +78,30 @@ abbrev pub is_key_equation : Explore → (ℕ → Bool) → ℕ → Formula → 
 is_key_equation x test w (Compare comparison.Equal a b) = (is_enforced_key x w a && mentions_only test b) || (is_enforced_key x w b && mentions_only test a)
 is_key_equation x test w e = false
 
+-- the conjuncts of a condition, if there is one
 abbrev pub conjuncts_of : Option Formula → List Formula
 conjuncts_of None = []
 conjuncts_of (Some e) = conjuncts e
 
+-- a conjunct of the join's condition equates the view's enforced key with what passes
 abbrev pub has_key_equation : Explore → (ℕ → Bool) → ℕ → Join → Bool
 has_key_equation x test w join = list_any (is_key_equation x test w) (conjuncts_of join.on)
 
+-- the join keeps the rows of both sides
 abbrev pub is_full : JoinKind → Bool
 is_full Full = true
 is_full Left = false
 is_full Inner = false
 is_full Cross = false
 
+-- the join keeps only pairs
 abbrev pub is_inner : JoinKind → Bool
 is_inner Inner = true
 is_inner Left = false
 is_inner Full = false
 is_inner Cross = false
 
+-- the join keeps the rows of the left side
 abbrev pub is_left : JoinKind → Bool
 is_left Left = true
 is_left Inner = false
@@ -111,9 +120,11 @@ finds_earlier x known w j =
     is_present_in known (j + 1) && nat_lt w (j + 1) && (is_left (join_at x j).kind || is_inner (join_at x j).kind)
     && has_key_equation x (is_determined_in known) w (join_at x j)
 
+-- the view is the base view or is brought by one of the joins
 abbrev pub joins_view : List ℕ → ℕ → Bool
 joins_view joins w = (w == 0) || list_any (λ j. w == j + 1) joins
 
+-- one of the joins is a full one
 abbrev pub has_full : Explore → List ℕ → Bool
 has_full x joins = list_any (λ j. is_full (join_at x j).kind) joins
 
@@ -142,6 +153,7 @@ determined_views x joins v = filter (is_determined_in (standings x joins v)) (nu
 
 -- ---- fit
 
+-- the joins of a rollup's query
 abbrev pub rollup_joins : Explore → Rollup → List ℕ
 rollup_joins x r = joins_for x (r.dims ++ filtered r.filters) r.measures
 
@@ -149,6 +161,7 @@ rollup_joins x r = joins_for x (r.dims ++ filtered r.filters) r.measures
 abbrev pub keeps_rows : Explore → ℕ → Bool
 keeps_rows x j = is_left (join_at x j).kind && has_key_equation x (λ p. nat_le p j) (j + 1) (join_at x j)
 
+-- the query's joins are among the rollup's, and each further one keeps the rows
 abbrev pub joins_fit : Explore → Rollup → Bound → Bool
 joins_fit x r b = list_all (λ j. has_number j (rollup_joins x r)) b.joins && list_all (λ j. has_number j b.joins || keeps_rows x j) (rollup_joins x r)
 
@@ -157,9 +170,11 @@ abbrev pub is_coarser : Shape → Shape → Bool
 is_coarser (shape.Frame g coarse) (shape.Frame h fine) = (g == h) && is_had_from coarse fine
 is_coarser s t = false
 
+-- a dimension of the rollup is the field, or a finer timeframe of its group
 abbrev pub has_field : Explore → Rollup → ℕ → Bool
 has_field x r f = list_any (λ d. (d == f) || is_coarser (field_at x f).shape (field_at x d).shape) r.dims
 
+-- the rollup has each field that the query groups or filters by
 abbrev pub fields_fit : Explore → Rollup → Bound → Bool
 fields_fit x r b = list_all (has_field x r) (dims_of b.picks ++ filtered b.rows ++ filtered b.access)
 
@@ -167,9 +182,11 @@ fields_fit x r b = list_all (has_field x r) (dims_of b.picks ++ filtered b.rows 
 abbrev pub filters_fit : Rollup → Bound → Bool
 filters_fit r b = list_all (λ f. list_any (λ g. (f.0 == g.0) && is_same_filter f.1 g.1) b.rows) r.filters
 
+-- the rollup has each component of the query's measures
 abbrev pub measures_fit : Explore → Rollup → Bound → Bool
 measures_fit x r b = list_all (λ m. has_number m (components_of x r.measures)) (query_components x b)
 
+-- the same numbers, in any order
 abbrev pub is_same_set : List ℕ → List ℕ → Bool
 is_same_set xs ys = list_all (λ n. has_number n ys) xs && list_all (λ n. has_number n xs) ys
 
@@ -191,9 +208,11 @@ op_regroups SumDistinct one_group = false
 op_regroups AverageDistinct one_group = false
 op_regroups Number one_group = false
 
+-- the measure may be put together from finer groups
 abbrev pub regroups : Explore → Rollup → Measure → Bool
 regroups x r m = op_regroups m.op (is_determined_by x r m)
 
+-- the groups are the rollup's own, or each measure may be put together from them
 abbrev pub groups_fit : Explore → Rollup → Bound → Bool
 groups_fit x r b = is_same_set (dims_of b.picks) r.dims || list_all (λ m. regroups x r (measure_at x m)) (query_components x b)
 
@@ -203,10 +222,12 @@ fits x r b = joins_fit x r b && fields_fit x r b && filters_fit r b && measures_
 
 -- ---- what may be stored
 
+-- there is a number
 abbrev pub is_some_number : Option ℕ → Bool
 is_some_number None = false
 is_some_number (Some n) = true
 
+-- a type of measure may stand in a stored query, where its view has an enforced key that determines it or not
 abbrev pub op_stores : Op → Bool → Bool
 op_stores Min keyed = true
 op_stores Max keyed = true
@@ -224,17 +245,21 @@ may_be_stored x joins m =
     op_stores m.op (is_some_number (part_at x m.part).enforced
     && list_all (λ p. has_number p (determined_views x joins m.part)) (mentions_of m.value ++ flat_map (field_parts x) (filtered m.filters)))
 
+-- each component of a rollup's measures may stand in it
 abbrev pub may_be_rolled_up : Explore → Rollup → Bool
 may_be_rolled_up x r = list_all (λ m. may_be_stored x (rollup_joins x r) (measure_at x m)) (components_of x r.measures)
 
 -- ---- route
 
+-- the rollup past the end of an explore's rollups
 abbrev pub no_rollup : Rollup
 no_rollup = record { name = []; dims = []; measures = []; filters = []; datagroup = 0 }
 
+-- the rollup of a number
 abbrev pub rollup_at : Explore → ℕ → Rollup
 rollup_at x r = slice_index_or x.rollups r no_rollup
 
+-- the rollups that fit, in declared order
 abbrev pub fitting : Explore → Bound → List ℕ
 fitting x b = filter (λ r. fits x (rollup_at x r) b) (numbers_below (length x.rollups))
 
@@ -243,10 +268,12 @@ abbrev pub better : Explore → ℕ → Option ℕ → Option ℕ
 better x r None = Some r
 better x r (Some t) = if nat_le (length (rollup_at x r).dims) (length (rollup_at x t).dims) then Some r else Some t
 
+-- of some rollups the one with the fewest dimensions, and else the first
 abbrev pub best_rollup : Explore → List ℕ → Option ℕ
 best_rollup x [] = None
 best_rollup x (r ∷ rs) = better x r (best_rollup x rs)
 
+-- the derived table past the end of a model's derived tables
 abbrev pub no_derived : Derived
 no_derived = record { name = []; explore = 0; columns = []; filters = []; datagroup = None }
 
@@ -254,10 +281,12 @@ no_derived = record { name = []; explore = 0; columns = []; filters = []; datagr
 abbrev pub origins_of : Explore → List ℕ → List Origin
 origins_of x joins = (part_at x 0).origin ∷ map (λ j. (part_at x (j + 1)).origin) joins
 
+-- a persisted derived table's own datagroup, or those that it reaches
 abbrev pub or_within : (Derived → List ℕ) → Derived → Option ℕ → List ℕ
 or_within deeper d None = deeper d
 or_within deeper d (Some g) = g ∷ []
 
+-- the datagroups that a view's origin reaches
 abbrev pub datagroups_from : Model → (Derived → List ℕ) → Origin → List ℕ
 datagroups_from m deeper (Stored t) = []
 datagroups_from m deeper (FromDerived n) = let d = slice_index_or m.derived n no_derived in or_within deeper d d.datagroup
@@ -272,10 +301,12 @@ reached_by m (suc n) d =
 abbrev pub reached_datagroups : Model → Explore → List ℕ → List ℕ
 reached_datagroups m x joins = flat_map (datagroups_from m (reached_by m (length m.derived))) (origins_of x joins)
 
+-- to the build of a datagroup that is reached, or else to the current tables
 abbrev pub route_to_build : List ℕ → ℕ → List ℕ → Route
 route_to_build builds now [] = record { number = now; from = from.Current }
 route_to_build builds now (g ∷ gs) = record { number = slice_index builds g; from = from.Build g }
 
+-- to a rollup's build, where there is one
 abbrev pub route_or : Explore → List ℕ → Option ℕ → Route → Route
 route_or x builds None route = route
 route_or x builds (Some r) route = record { number = slice_index builds (rollup_at x r).datagroup; from = from.Rollup r }
@@ -288,6 +319,7 @@ route_of m builds now b =
 
 -- ---- partials
 
+-- no part of a measure
 abbrev pub no_partial : Partial
 no_partial = record { count = 0; sum = pos 0; values = 0; least = value.Null; most = value.Null; distinct = 0 }
 

@@ -21,6 +21,7 @@ weekday_name n = slice_index_or (codes "Monday" ∷ codes "Tuesday" ∷ codes "W
 abbrev pub whole : ℕ → Value
 whole n = value.Num (record { 0 = pos (10000 * n) })
 
+-- a day from 0001-01-01 as a value
 abbrev pub day_at : ℕ → Value
 day_at n = value.Day (from_1970 n)
 
@@ -60,6 +61,7 @@ frame_place DayOfWeek = 8
 frame_place DayOfMonth = 9
 frame_place MonthNum = 10
 
+-- two timeframes are the same
 abbrev pub is_same_frame : Frame → Frame → Bool
 is_same_frame f g = frame_place f == frame_place g
 
@@ -77,6 +79,7 @@ sources_of DayOfWeek = Raw ∷ Time ∷ Date ∷ DayOfWeek ∷ []
 sources_of DayOfMonth = Raw ∷ Time ∷ Date ∷ DayOfMonth ∷ []
 sources_of MonthNum = Raw ∷ Time ∷ Date ∷ Month ∷ MonthNum ∷ []
 
+-- the coarse timeframe is had from the fine one
 abbrev pub is_had_from : Frame → Frame → Bool
 is_had_from coarse fine = list_any (is_same_frame fine) (sources_of coarse)
 

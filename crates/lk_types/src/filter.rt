@@ -1,7 +1,8 @@
 use crate::expr::{Comparison, Piece};
 use lk_val::{Items, Num};
 
-/// A filter on a field. A value passes where it meets some include, or there is none, and no exclude.
+/// A filter on a field. A value passes where it meets some include, or there is none, and no exclude. `relative`
+/// says that some test is a relative date. (Looker, filter expressions)
 #[derive(Debug, Drop)]
 pub struct Filter {
     pub include: Items<Test>,
@@ -9,7 +10,7 @@ pub struct Filter {
     pub relative: bool,
 }
 
-/// Days from a first day up to the day after the last.
+/// Days from a first day up to the day after the last, both from 1970-01-01.
 #[derive(Clone, Copy, Debug, PartialEq, Eq)]
 pub struct Days {
     pub from: i32,
@@ -31,7 +32,7 @@ pub struct End {
     pub closed: bool,
 }
 
-/// A unit of relative dates.
+/// A unit of relative dates. (Looker, filter expressions: date)
 #[derive(Clone, Copy, Debug, PartialEq, Eq)]
 pub enum Period {
     Day,
@@ -41,7 +42,7 @@ pub enum Period {
     Year,
 }
 
-/// One item of a filter.
+/// One item of a filter, by its form: two forms that pass the same values are two tests.
 #[derive(Debug, Drop)]
 pub enum Test {
     Null,

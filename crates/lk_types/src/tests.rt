@@ -1,5 +1,5 @@
 use super::*;
-use lk_val::{Cell, Items, NoMemory, Num, Value};
+use lk_val::{Cell, Frac, Items, NoMemory, Num, Value};
 use std::alloc::Global;
 use std::test::Fail;
 
@@ -24,6 +24,8 @@ fn cells_print_as_their_kind(rt: HostRuntime) -> Result<(), Fail> {
         ),
         (Cell::Count(3), "3"),
         (Cell::Sum(1_805_000), "180.5"),
+        (Cell::Frac(Frac::new(1_805_000, 30_000)), "361/6"),
+        (Cell::Frac(Frac::new(-4, 2)), "-2"),
     ];
     for (cell, printed) in &cases {
         assert_eq!(rt; print_cell(alloc, cell, &Shape::Plain).or(Err(FULL))?.as_str(), *printed);
