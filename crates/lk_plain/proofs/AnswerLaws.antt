@@ -30,7 +30,7 @@ groups_are x picks measures rows = from 0 rows
     from n [] = refl
     from n (row ∷ rest) = λ i. same_tuple x picks row i ∷ from (n + 1) rest i
 
-columns_are : (x : Explore) (picks : List Pick) → columns_of x picks ≡ map (λ f. (field_at x f).column) (dims_of picks)
+pub columns_are : (x : Explore) (picks : List Pick) → columns_of x picks ≡ map (λ f. (field_at x f).column) (dims_of picks)
 columns_are x [] = refl
 columns_are x (Dim f ∷ picks) = ap (λ columns. (field_at x f).column ∷ columns) (columns_are x picks)
 columns_are x (Mea m ∷ picks) = columns_are x picks

@@ -59,7 +59,7 @@ pub index_between : {X : Type 0} (front : List X) (x : X) (back : List X) (d : X
 index_between [] x back d = refl
 index_between (y ∷ front) x back d = index_between front x back d
 
-IsStrictlySortedBy-map : {X Y : Type 0} (cmp : Y → Y → Ordering) (f : X → Y) (xs : List X) → IsStrictlySortedBy (on f cmp) xs → IsStrictlySortedBy cmp (map f xs)
+pub IsStrictlySortedBy-map : {X Y : Type 0} (cmp : Y → Y → Ordering) (f : X → Y) (xs : List X) → IsStrictlySortedBy (on f cmp) xs → IsStrictlySortedBy cmp (map f xs)
 unfolding IsStrictlySortedBy
 IsStrictlySortedBy-map {X} {Y} cmp f [] sorted = tt
 IsStrictlySortedBy-map {X} {Y} cmp f (x ∷ xs) sorted = (mapped xs sorted.0, IsStrictlySortedBy-map cmp f xs sorted.1)
@@ -68,7 +68,7 @@ IsStrictlySortedBy-map {X} {Y} cmp f (x ∷ xs) sorted = (mapped xs sorted.0, Is
     mapped [] all = tt
     mapped (y ∷ ys) all = (all.0, mapped ys all.1)
 
-AllByRecursion-filter : {X : Type 0} (P : X → Type 0) (test : X → Bool) (xs : List X) → AllByRecursion P xs → AllByRecursion P (filter test xs)
+pub AllByRecursion-filter : {X : Type 0} (P : X → Type 0) (test : X → Bool) (xs : List X) → AllByRecursion P xs → AllByRecursion P (filter test xs)
 AllByRecursion-filter P test [] all = tt
 AllByRecursion-filter P test (x ∷ xs) all =
     elim (test x) as (λ b. AllByRecursion P (cond b (x ∷ filter test xs) (filter test xs))) [
@@ -104,7 +104,7 @@ abbrev pub StandsIn : List (List Value) → Placed → Type 0
 StandsIn rows e = row_at rows e.0 ≡ e.1
 
 -- each row stands at its place
-stands : (front rows : List (List Value)) (n : ℕ) → n ≡ length front → AllByRecursion (StandsIn (front ++ rows)) (enumerate_from n rows)
+pub stands : (front rows : List (List Value)) (n : ℕ) → n ≡ length front → AllByRecursion (StandsIn (front ++ rows)) (enumerate_from n rows)
 stands front [] n is = tt
 stands front (x ∷ xs) n is =
     let more : n + 1 ≡ length (front ++ x ∷ []) = omega (arith, length-append front (x ∷ [])) in
