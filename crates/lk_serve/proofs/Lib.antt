@@ -1,2 +1,3 @@
 pub mod Fronts
 pub mod FolderLaws
+pub mod AnswerLaws

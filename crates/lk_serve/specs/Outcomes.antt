@@ -3,7 +3,8 @@ use Rattle.std.specs.Prelude.{ℕ, nat_le, ◌&&◌, if◌then◌else◌, List, 
 use Rattle.std.specs.List.{list_any}
 use Rattle.lk_val.specs.Texts.{is_same_text}
 use Rattle.lk_io.specs.declared.files.File.{File}
-use Rattle.lk_plain.specs.Answers.{answer_of}
+use Rattle.lk_types.specs.Answers.{answer_of}
+use Rattle.lk_answer.specs.Views.{explore_of, bound_of, sources_of}
 use Rattle.lk_project.specs.declared.project.Project.{Project}
 use Rattle.lk_serve.specs.Asked.{fields_of}
 use Rattle.lk_serve.specs.Picked.{bound_by}
@@ -25,10 +26,11 @@ abbrev pub asked_fields : Project → List ℕ → List ℕ → Option (List ℕ
 asked_fields project user explore body =
     if list_any (is_same_text user) project.users && is_same_text explore project.explore.name then option_and_then fields_of body else None
 
--- the answer to the picks, with at most so many rows; or the first name that picks nothing
+-- the answer to the picks over the view as an explore, with at most so many rows; or the first name that picks nothing
 abbrev pub bound_reply : Project → List (List ℕ) → Binding → Reply
 bound_reply project names (Unknown name) = unknown_reply name
-bound_reply project names (Picks picks) = answer_reply names (answer_of project.explore (record { picks = picks; limit = ROW_LIMIT }) project.rows)
+bound_reply project names (Picks picks) =
+    answer_reply project.explore names (answer_of (explore_of project.explore) (sources_of project.rows) (bound_of (record { picks = picks; limit = ROW_LIMIT })))
 
 abbrev pub fields_reply : Project → Option (List (List ℕ)) → Reply
 fields_reply project None = refused_reply

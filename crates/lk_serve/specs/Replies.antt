@@ -2,7 +2,12 @@
 use Rattle.std.specs.Prelude.{ℕ, Bool, true, false, List, [], ◌∷◌, ◌++◌, map, codes}
 use Rattle.json.specs.Print.{quoted}
 use Rattle.lk_csv.specs.Records.{records_text}
-use Rattle.lk_types.specs.Printing.{cell_text}
+use Rattle.lk_types.specs.Printing.{cell_text, value_text}
+use Rattle.lk_types.specs.declared.answer.Answer.{Answer}
+use Rattle.lk_types.specs.declared.answer.Answer.TheVariants as answer
+use Rattle.lk_plain.specs.declared.explore.Explore.{Explore}
+use Rattle.lk_plain.specs.Rows.{measure_at}
+use Rattle.lk_val.specs.declared.value.Value.{Value}
 use Rattle.lk_types.specs.declared.explore.Shape.TheVariants as shape
 use Rattle.lk_val.specs.declared.cell.Cell.{Cell}
 use Rattle.lk_plain.specs.declared.query.Table.{Table}
@@ -55,5 +60,17 @@ plain_text = cell_text shape.Plain
 unfoldable pub table_text : List (List ℕ) → Table → List ℕ
 table_text names table = records_text (names ∷ map (map plain_text) table.rows) ++ completeness table.complete
 
-abbrev pub answer_reply : List (List ℕ) → Table → Reply
-answer_reply names table = record { body = table_text names table; status = Done }
+abbrev pub table_reply : List (List ℕ) → Table → Reply
+table_reply names table = record { body = table_text names table; status = Done }
+
+-- two values of a measure for one key refuse the query. No view without a primary key has them
+abbrev pub conflict_reply : Explore → ℕ → Value → Reply
+conflict_reply x measure key = record {
+  body = line (codes "{\"error\":\"Q9\",\"key\":" ++ quoted (value_text key) ++ codes ",\"measure\":" ++ quoted (measure_at x measure).name ++ codes "}");
+  status = Refused;
+}
+
+-- the answer in CSV, or the conflict
+abbrev pub answer_reply : Explore → List (List ℕ) → Answer → Reply
+answer_reply x names (answer.Table rows complete) = table_reply names (record { rows = rows; complete = complete })
+answer_reply x names (answer.Duplicate measure key) = conflict_reply x measure key

@@ -2,7 +2,7 @@ ghost use Rattle.std.specs.Prelude.{◌≡◌, ◌∷◌, ◌++◌, [], IfOk, On
 ghost use Rattle.json.specs.Print.{quoted};
 ghost use Rattle.lk_csv.specs.Records.{record_text, records_text};
 ghost use Rattle.lk_serve.specs.declared.replies.Status.{Status};
-ghost use Rattle.lk_serve.specs.Replies.{code_of, line, usage_reply, faulty_reply, refused_reply, unknown_reply, answer_reply, table_text, completeness, plain_text};
+ghost use Rattle.lk_serve.specs.Replies.{code_of, line, usage_reply, faulty_reply, refused_reply, unknown_reply, table_reply, table_text, completeness, plain_text};
 
 use lk_csv::write_record;
 use lk_plain::Table;
@@ -97,7 +97,7 @@ fn line_reply(alloc: Global, text: &[u8], status: Status) -> Result<Reply, NoMem
 
 /// The answer in CSV: the names that were asked for, a record for each line, and the snapshot that it is of.
 pub fn answered(alloc: Global, names: &[Text], table: &Table) -> Result<Reply, NoMemory>
-    ensures { IfOk result (λ reply. reply ≡ answer_reply names.now table.now) }
+    ensures { IfOk result (λ reply. reply ≡ table_reply names.now table.now) }
 {
     Ok(Reply {
         body: print_table(alloc, names, table)?,

@@ -1,7 +1,8 @@
-ghost use Rattle.std.specs.Prelude.{◌≡◌, ◌≢◌, ◌≤◌, IfOk, IfErr, IfSome, IsSome, MatchResult, None, false};
+ghost use Rattle.std.specs.Prelude.{◌≡◌, ◌≢◌, ◌≤◌, All, IfOk, IfErr, IfSome, IsSome, MatchResult, None, false};
 ghost use Rattle.std.specs.Io.KnownBytes.{IsAtEnd};
 ghost use Rattle.lk_io.specs.Causes.{Rose};
 ghost use Rattle.lk_io.specs.Streams.{AppendsFront};
+ghost use Rattle.lk_plain.specs.Answers.{IsPick};
 ghost use Rattle.lk_project.specs.Projects.{IsNumbered};
 ghost use Rattle.lk_serve.specs.Outcomes.{reply_of, query_reply, asked_fields, bound_reply};
 ghost use Rattle.lk_serve.specs.Picked.{bound_by};
@@ -9,6 +10,7 @@ ghost use Rattle.lk_serve.specs.Replies.{ComesUnread, code_of, usage_reply};
 ghost use Rattle.lk_serve.specs.Runs.{IsStatus, IsUsageStatus, IsWritten, LeavesInput, NeverFall, StopsBefore, is_stopped};
 ghost use Rattle.lk_serve.specs.Stops.{HasStopCause};
 ghost use Rattle.lk_serve.specs.Words.{query_words};
+ghost use Rattle.lk_serve.specs.declared.picked.Binding.TheVariants.{Picks};
 ghost use Rattle.lk_serve.specs.declared.replies.Status.{Status};
 ghost use Rattle.lk_serve.specs.declared.stops.Stop.{Stop};
 
@@ -21,7 +23,7 @@ use crate::stops::Stop;
 use crate::words::read_words;
 use lk_io::{Files, Sink, Source};
 use lk_project::Project;
-use lk_plain::{Bound, answer};
+use lk_plain::{Bound, Pick, answer};
 use lk_val::{Bytes, Items, NoMemory, Text, is_among};
 use std::alloc::Global;
 
@@ -173,13 +175,24 @@ fn reply_to_fields(alloc: Global, project: &Project, names: &[Text]) -> Result<R
 {
     match bind(alloc, &project.explore, names)? {
         Binding::Unknown(name) => unknown(alloc, &name),
-        Binding::Picks(picks) => {
-            let bound = Bound {
-                picks,
-                limit: ROW_LIMIT,
-            };
-            let table = answer(alloc, &project.explore, &bound, project.rows.as_slice())?;
-            answered(alloc, names, &table)
-        }
+        Binding::Picks(picks) => reply_to_picks(alloc, project, names, picks),
     }
+}
+
+fn reply_to_picks(
+    alloc: Global,
+    project: &Project,
+    names: &[Text],
+    picks: Items<Pick>,
+) -> Result<Reply, NoMemory>
+    requires { All (IsPick project.now.explore) picks }
+    ensures reply { IfOk result (λ reply. reply ≡ bound_reply project.now names.now (Picks picks)) }
+    ensures read { IfOk result (λ reply. ComesUnread reply.status → ⊥) }
+{
+    let bound = Bound {
+        picks,
+        limit: ROW_LIMIT,
+    };
+    let table = answer(alloc, &project.explore, &bound, project.rows.as_slice())?;
+    answered(alloc, names, &table)
 }
