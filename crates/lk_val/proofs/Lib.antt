@@ -3,6 +3,10 @@ pub mod FractionSteps
 pub mod RatioLaws
 pub mod FractionOrder
 pub mod RoundingSteps
+pub mod IntRing
+pub mod FractionLaws
+pub mod CellLaws
+pub mod RoundingLaws
 pub mod SetLaws
 pub mod LeastLaws
 pub mod ValueLaws

@@ -119,7 +119,7 @@ times-odd k part by half_times half_rest even_times even_rest times rest e f g o
 
 -- ---- a fraction at four places
 
-not-negative : (k : ℕ) → int_lt (pos k) (pos 0) ≡ false
+pub not-negative : (k : ℕ) → int_lt (pos k) (pos 0) ≡ false
 not-negative k =
     elim (int_lt (pos k) (pos 0)) as (λ b. int_lt (pos k) (pos 0) ≡ b → b ≡ false) [
       | true ↦ λ e. absurd (omega (arith, ints))

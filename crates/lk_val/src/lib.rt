@@ -8,6 +8,7 @@ mod divisor;
 mod fault;
 mod frac;
 mod items;
+mod laws;
 mod memory;
 mod num;
 mod ratio;
@@ -23,9 +24,13 @@ pub use distinct::do_differ;
 pub use fault::{FaultLine, ModelFault};
 pub use frac::Frac;
 pub use items::Items;
+pub use laws::{
+    cells_are_ordered, fractions_are_ordered, fractions_form_a_field, gcd_is_greatest,
+    lowest_terms_are_unique, rounding_is_nearest,
+};
 pub use memory::NoMemory;
 pub use num::{Num, NumFault, print_count};
-pub use sets::{set_ascends, set_has_its_list};
+pub use sets::{set_ascends, set_has_its_list, set_is_unique};
 pub use text::{Text, are_different, as_text, is_among, is_text};
 pub use tuple::Tuple;
 pub use value::{Value, cmp_value, order_is_exact};

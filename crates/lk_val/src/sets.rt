@@ -14,3 +14,9 @@ pub fn set_ascends<T: Ord>()
 pub fn set_has_its_list<T: Ord>()
     ensures { IsAntisymmetric T.cmp → (xs : List T) (x : T) → has T.cmp x (set_of T.cmp xs) ≡ has T.cmp x xs }
 {}
+
+/// No other ascending list has the items of the list, where only equal items tie. A law: it computes nothing.
+pub fn set_is_unique<T: Ord>()
+    ensures { IsAntisymmetric T.cmp → (xs ys : List T) → IsStrictlySortedBy T.cmp ys
+        → ((x : T) → has T.cmp x ys ≡ has T.cmp x xs) → ys ≡ set_of T.cmp xs }
+{}

@@ -1,6 +1,6 @@
 ghost use Rattle.std.specs.Prelude.{◌≡◌, IfOk};
 ghost use Rattle.lk_val.specs.Sets.{IsExactOrder};
-ghost use Rattle.lk_val.specs.Values.{value_cmp, tuple_cmp};
+ghost use Rattle.lk_val.specs.Values.{value_cmp, null_last_cmp, tuple_cmp};
 
 use crate::memory::NoMemory;
 use crate::num::Num;
@@ -43,8 +43,10 @@ pub fn cmp_value(a: &Value, b: &Value) -> Ordering
     a.cmp(b)
 }
 
-/// The order of values is total and only equal values tie, and so it is for tuples. A law: it computes nothing.
+/// The order of values is total and only equal values tie, and so it is with null last, and for tuples. A law: it
+/// computes nothing.
 pub fn order_is_exact()
     ensures values { IsExactOrder value_cmp }
+    ensures null_last { IsExactOrder null_last_cmp }
     ensures tuples { IsExactOrder tuple_cmp }
 {}
