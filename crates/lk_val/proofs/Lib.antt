@@ -7,6 +7,8 @@ pub mod IntRing
 pub mod FractionLaws
 pub mod CellLaws
 pub mod RoundingLaws
+pub mod DecimalLaws
+pub mod PrintLaws
 pub mod SetLaws
 pub mod LeastLaws
 pub mod ValueLaws

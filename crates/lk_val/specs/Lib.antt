@@ -9,3 +9,4 @@ pub mod Rounding
 pub mod Cells
 pub mod Least
 pub mod Faults
+pub mod Decimals

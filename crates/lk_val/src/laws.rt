@@ -1,10 +1,13 @@
 // Laws of the definitions that contracts cite. Each is a function that computes nothing: its clauses are the law.
 
-ghost use Rattle.std.specs.Prelude.{◌≡◌, ◌<ℤ◌, ◌*ℤ◌, ℕ, ℤ, pos, Some};
-ghost use Rattle.std.specs.Int.{IsGcd};
+ghost use Rattle.std.specs.Prelude.{◌≡◌, ◌<ℤ◌, ◌*ℤ◌, ℕ, ℤ, List, pos, Some, Ok, Err, FitsSigned};
+ghost use Rattle.std.specs.Int.{IsGcd, w64};
 ghost use Rattle.std.specs.Ordering.{int_cmp, ordering_reverse};
 ghost use Rattle.std.specs.declared.cmp.Ordering.TheVariants.{Less, Equal};
 ghost use Rattle.lk_val.specs.Fractions.{Fraction, IsReduced, gcd, reduced, frac_add, frac_sub, frac_mul, frac_div, frac_neg, frac_cmp};
+ghost use Rattle.lk_val.specs.Numbers.{num_of, number_text};
+ghost use Rattle.lk_val.specs.Decimals.{Decimal, IsDecimal, IsDecimalText, decimal_text, decimal_number};
+ghost use Rattle.lk_val.specs.declared.num.NumFault.TheVariants.{NotNumber};
 ghost use Rattle.lk_val.specs.Rounding.{IsRounded, rounded};
 ghost use Rattle.lk_val.specs.Cells.{IsReducedCell, cell_cmp};
 ghost use Rattle.lk_val.specs.declared.cell.Cell.{Cell};
@@ -70,4 +73,16 @@ pub fn cells_are_ordered()
     ensures turned { (a b : Cell) → cell_cmp b a ≡ ordering_reverse (cell_cmp a b) }
     ensures less { (a b c : Cell) → IsReducedCell a → IsReducedCell b → IsReducedCell c
         → cell_cmp a b ≡ Less → cell_cmp b c ≡ Less → cell_cmp a c ≡ Less }
+{}
+
+/// A decimal reads as the number that it writes; where a digit other than 0 stands past the fourth place, or 64 bits
+/// do not hold the count, the fault says so. Every other text is no number.
+pub fn numbers_read_as_written()
+    ensures decimal { (d : Decimal) → IsDecimal d → num_of (decimal_text d) ≡ decimal_number d }
+    ensures other { (text : List ℕ) → ¬ (IsDecimalText text) → num_of text ≡ Err NotNumber }
+{}
+
+/// A number that is printed reads as it was.
+pub fn printed_numbers_read_back()
+    ensures { (count : ℤ) → FitsSigned w64 count → num_of (number_text count) ≡ Ok (record { 0 = count }) }
 {}

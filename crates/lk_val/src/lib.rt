@@ -26,7 +26,8 @@ pub use frac::Frac;
 pub use items::Items;
 pub use laws::{
     cells_are_ordered, fractions_are_ordered, fractions_form_a_field, gcd_is_greatest,
-    lowest_terms_are_unique, rounding_is_nearest,
+    lowest_terms_are_unique, numbers_read_as_written, printed_numbers_read_back,
+    rounding_is_nearest,
 };
 pub use memory::NoMemory;
 pub use num::{Num, NumFault, print_count};
