@@ -42,7 +42,7 @@ value_is n (d ∷ ds) =
         let product : n * q ≡ n * (10 * p) = ap (λ q. n * q) e in
         omega arith
 
-none_past : (ds : List ℕ) → places_sum 0 ds ≡ 0
+pub none_past : (ds : List ℕ) → places_sum 0 ds ≡ 0
 none_past [] = refl
 none_past (d ∷ ds) =
     let rest : places_sum 0 ds ≡ 0 = none_past ds in

@@ -298,14 +298,17 @@ cmp-equal a b ra rb e = reduced-unique a b ra rb (int_ranked (a.n *ℤ b.d) (b.n
 pub cmp-itself : (a : Fraction) → frac_cmp a a ≡ Equal
 cmp-itself a = tied_itself int_cmp_total (a.n *ℤ a.d)
 
-pub cmp-less : (a b c : Fraction) → IsReduced a → IsReduced b → IsReduced c → frac_cmp a b ≡ Less → frac_cmp b c ≡ Less → frac_cmp a c ≡ Less
-cmp-less a b c ra rb rc ab bc =
+pub positive-less : (a b c : Fraction) → pos 0 <ℤ a.d → pos 0 <ℤ b.d → pos 0 <ℤ c.d → frac_cmp a b ≡ Less → frac_cmp b c ≡ Less → frac_cmp a c ≡ Less
+positive-less a b c pa pb pc ab bc =
     let first : int_cmp ((a.n *ℤ c.d) *ℤ b.d) ((b.n *ℤ c.d) *ℤ a.d) ≡ Less =
-    ap₂ int_cmp (product_turned a.n c.d b.d) (product_turned b.n c.d a.d) ∙ cmp_product (a.n *ℤ b.d) (b.n *ℤ a.d) c.d rc.positive ∙ ab in
+    ap₂ int_cmp (product_turned a.n c.d b.d) (product_turned b.n c.d a.d) ∙ cmp_product (a.n *ℤ b.d) (b.n *ℤ a.d) c.d pc ∙ ab in
     let second : int_cmp ((b.n *ℤ c.d) *ℤ a.d) ((c.n *ℤ a.d) *ℤ b.d) ≡ Less =
-    ap (λ z. int_cmp ((b.n *ℤ c.d) *ℤ a.d) z) (product_turned c.n a.d b.d) ∙ cmp_product (b.n *ℤ c.d) (c.n *ℤ b.d) a.d ra.positive ∙ bc in
-    sym (cmp_product (a.n *ℤ c.d) (c.n *ℤ a.d) b.d rb.positive)
+    ap (λ z. int_cmp ((b.n *ℤ c.d) *ℤ a.d) z) (product_turned c.n a.d b.d) ∙ cmp_product (b.n *ℤ c.d) (c.n *ℤ b.d) a.d pa ∙ bc in
+    sym (cmp_product (a.n *ℤ c.d) (c.n *ℤ a.d) b.d pb)
     ∙ int_cmp_total.trans ((a.n *ℤ c.d) *ℤ b.d) ((b.n *ℤ c.d) *ℤ a.d) ((c.n *ℤ a.d) *ℤ b.d) first second
+
+pub cmp-less : (a b c : Fraction) → IsReduced a → IsReduced b → IsReduced c → frac_cmp a b ≡ Less → frac_cmp b c ≡ Less → frac_cmp a c ≡ Less
+cmp-less a b c ra rb rc ab bc = positive-less a b c ra.positive rb.positive rc.positive ab bc
 
 -- the sign of a difference is the order
 pub cmp-difference : (a b f : Fraction) → IsReduced a → IsReduced b → frac_sub a b ≡ Some f → frac_cmp a b ≡ int_cmp f.n (pos 0)

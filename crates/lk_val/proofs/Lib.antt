@@ -9,6 +9,7 @@ pub mod CellLaws
 pub mod RoundingLaws
 pub mod DecimalLaws
 pub mod PrintLaws
+pub mod CellOrder
 pub mod SetLaws
 pub mod LeastLaws
 pub mod ValueLaws

@@ -1,6 +1,6 @@
 // Laws of the definitions that contracts cite. Each is a function that computes nothing: its clauses are the law.
 
-ghost use Rattle.std.specs.Prelude.{◌≡◌, ◌<ℤ◌, ◌*ℤ◌, ℕ, ℤ, List, pos, Some, Ok, Err, FitsSigned};
+ghost use Rattle.std.specs.Prelude.{◌≡◌, ◌<ℤ◌, ◌*ℤ◌, ◌≤◌, length, ℕ, ℤ, List, pos, Some, Ok, Err, FitsSigned};
 ghost use Rattle.std.specs.Int.{IsGcd, w64};
 ghost use Rattle.std.specs.Ordering.{int_cmp, ordering_reverse};
 ghost use Rattle.std.specs.declared.cmp.Ordering.TheVariants.{Less, Equal};
@@ -82,7 +82,9 @@ pub fn numbers_read_as_written()
     ensures other { (text : List ℕ) → ¬ (IsDecimalText text) → num_of text ≡ Err NotNumber }
 {}
 
-/// A number that is printed reads as it was.
+/// A number that is printed reads as it was, and no decimal of the number is shorter.
 pub fn printed_numbers_read_back()
-    ensures { (count : ℤ) → FitsSigned w64 count → num_of (number_text count) ≡ Ok (record { 0 = count }) }
+    ensures same { (count : ℤ) → FitsSigned w64 count → num_of (number_text count) ≡ Ok (record { 0 = count }) }
+    ensures shortest { (d : Decimal) (count : ℤ) → IsDecimal d → decimal_number d ≡ Ok (record { 0 = count })
+        → length (number_text count) ≤ length (decimal_text d) }
 {}
