@@ -1,1 +1,5 @@
 pub mod PlaceLaws
+pub mod StepLemmas
+pub mod FormLaws
+pub mod StepLaws
+pub mod MachineLaws

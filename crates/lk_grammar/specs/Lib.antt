@@ -1,1 +1,6 @@
 pub mod Places
+pub mod Forms
+pub mod Coding
+pub mod Shapes
+pub mod Stacks
+pub mod Steps

@@ -1,0 +1,189 @@
+ghost use Rattle.std.specs.Prelude.{◌≡◌, IfOk, length};
+ghost use Rattle.lk_grammar.specs.Forms.{nothing, empty, byte, seq, either, many, nested, optional, may_end, is_live, is_same_form};
+
+use lk_val::NoMemory;
+use std::alloc::Global;
+use std::marker::Model;
+use std::rc::Rc;
+
+/// A grammar as a value, which clauses see as a form. A form that stands in several places is kept once.
+#[cycle(form)]
+#[derive(Drop)]
+pub struct Form {
+    pub(crate) shape: Shape,
+}
+
+#[cycle(form)]
+#[derive(Drop)]
+pub(crate) enum Shape {
+    Nothing,
+    Empty,
+    Byte(u8, u8),
+    Seq(Rc<Form>, Rc<Form>),
+    Either(Rc<Form>, Rc<Form>),
+    Many(Rc<Form>),
+    Nested(usize),
+}
+
+impl Model for Form {
+    ghost use Rattle.lk_grammar.specs.Forms.{Form, form_size};
+    ghost use Rattle.lk_grammar.specs.Coding.{form_code};
+
+    ghost Value = { Form };
+
+    ghost coded = { form_code };
+
+    ghost use Rattle.lk_grammar.specs.Shapes.{form_of};
+
+    ghost view = { λ form. form_of form.shape };
+
+    ghost size = { form_size };
+
+    ghost use Rattle.std.proofs.Common.{arith};
+
+    ghost size_decreases = { λ a h. Prim.grind arith };
+}
+
+impl Form {
+    /// No text at all.
+    pub fn nothing() -> Form
+        ensures { result ≡ nothing }
+    {
+        Form {
+            shape: Shape::Nothing,
+        }
+    }
+
+    /// The empty text alone.
+    pub fn empty() -> Form
+        ensures { result ≡ empty }
+    {
+        Form {
+            shape: Shape::Empty,
+        }
+    }
+
+    /// One byte.
+    pub fn byte(value: u8) -> Form
+        ensures { result ≡ byte value value }
+    {
+        Form::range(value, value)
+    }
+
+    /// One byte from the lowest to the highest.
+    pub fn range(low: u8, high: u8) -> Form
+        ensures { result ≡ byte low high }
+    {
+        Form {
+            shape: Shape::Byte(low, high),
+        }
+    }
+
+    /// A text of the rule with this number, one level deeper.
+    pub fn nested(rule: usize) -> Form
+        ensures { result ≡ nested rule }
+    {
+        Form {
+            shape: Shape::Nested(rule),
+        }
+    }
+
+    /// A text of the first form, and behind it one of the second.
+    pub fn seq(alloc: Global, first: Form, second: Form) -> Result<Form, NoMemory>
+        ensures { IfOk result (λ form. form ≡ seq first second) }
+    {
+        let first = Rc::new(alloc, first)?;
+        let second = Rc::new(alloc, second)?;
+        Ok(Form {
+            shape: Shape::Seq(first, second),
+        })
+    }
+
+    /// A text of one form or of the other.
+    pub fn either(alloc: Global, one: Form, other: Form) -> Result<Form, NoMemory>
+        ensures { IfOk result (λ form. form ≡ either one other) }
+    {
+        let one = Rc::new(alloc, one)?;
+        let other = Rc::new(alloc, other)?;
+        Ok(Form {
+            shape: Shape::Either(one, other),
+        })
+    }
+
+    /// Any number of texts of the form, one behind the other.
+    pub fn many(alloc: Global, form: Form) -> Result<Form, NoMemory>
+        ensures { IfOk result (λ repeated. repeated ≡ many form) }
+    {
+        let form = Rc::new(alloc, form)?;
+        Ok(Form {
+            shape: Shape::Many(form),
+        })
+    }
+
+    /// A text of the form, or the empty one.
+    pub fn optional(alloc: Global, form: Form) -> Result<Form, NoMemory>
+        ensures { IfOk result (λ either. either ≡ optional form) }
+    {
+        Form::either(alloc, form, Form::empty())
+    }
+
+    /// The same form, whose parts are shared and not copied.
+    pub fn share(&self) -> Result<Form, NoMemory>
+        ensures { IfOk result (λ form. form ≡ self.now) }
+    {
+        let shape = match &self.shape {
+            Shape::Nothing => Shape::Nothing,
+            Shape::Empty => Shape::Empty,
+            Shape::Byte(low, high) => Shape::Byte(*low, *high),
+            Shape::Seq(first, second) => Shape::Seq(first.clone()?, second.clone()?),
+            Shape::Either(one, other) => Shape::Either(one.clone()?, other.clone()?),
+            Shape::Many(form) => Shape::Many(form.clone()?),
+            Shape::Nested(rule) => Shape::Nested(*rule),
+        };
+        Ok(Form { shape })
+    }
+
+    /// Whether the empty text is of the form, where it is of no rule.
+    pub fn may_end(&self) -> bool
+        ensures { result ≡ may_end self.now }
+    {
+        match &self.shape {
+            Shape::Nothing | Shape::Byte(_, _) | Shape::Nested(_) => false,
+            Shape::Empty | Shape::Many(_) => true,
+            Shape::Seq(first, second) => first.may_end() && second.may_end(),
+            Shape::Either(one, other) => one.may_end() || other.may_end(),
+        }
+    }
+
+    /// Whether some text is of the form, where rules may stand in one another to this depth and each of them has some.
+    pub fn is_live(&self, depth: usize, rules: usize) -> bool
+        ensures { result ≡ is_live depth rules self.now }
+    {
+        match &self.shape {
+            Shape::Nothing => false,
+            Shape::Empty | Shape::Many(_) => true,
+            Shape::Byte(low, high) => low <= high,
+            Shape::Seq(first, second) => first.is_live(depth, rules)
+                && second.is_live(depth, rules),
+            Shape::Either(one, other) => one.is_live(depth, rules) || other.is_live(depth, rules),
+            Shape::Nested(rule) => 0 < depth && *rule < rules,
+        }
+    }
+
+    /// Whether two forms are written alike.
+    pub(crate) fn is_same(&self, other: &Form) -> bool
+        ensures { result ≡ is_same_form self.now other.now }
+    {
+        match (&self.shape, &other.shape) {
+            (Shape::Nothing, Shape::Nothing) | (Shape::Empty, Shape::Empty) => true,
+            (Shape::Byte(low, high), Shape::Byte(from, upto)) => low == from && high == upto,
+            (Shape::Seq(first, second), Shape::Seq(front, back)) => first.is_same(front)
+                && second.is_same(back),
+            (Shape::Either(one, other), Shape::Either(this, that)) => one.is_same(this)
+                && other.is_same(that),
+            (Shape::Many(form), Shape::Many(other)) => form.is_same(other),
+            (Shape::Nested(rule), Shape::Nested(other)) => rule == other,
+            _ => false,
+        }
+    }
+}
