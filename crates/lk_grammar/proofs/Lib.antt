@@ -3,3 +3,5 @@ pub mod StepLemmas
 pub mod FormLaws
 pub mod StepLaws
 pub mod MachineLaws
+pub mod TokenLaws
+pub mod WordLaws

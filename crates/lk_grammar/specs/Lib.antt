@@ -4,3 +4,5 @@ pub mod Coding
 pub mod Shapes
 pub mod Stacks
 pub mod Steps
+pub mod Words
+pub mod Tokens

@@ -1,10 +1,13 @@
 ghost use Rattle.std.specs.Prelude.{◌≡◌, IfOk, length};
-ghost use Rattle.lk_grammar.specs.Forms.{nothing, empty, byte, seq, either, many, nested, optional, may_end, is_live, is_same_form};
+ghost use Rattle.lk_grammar.specs.Words.{exactly, char, letters, spaces, free, word};
+ghost use Rattle.lk_grammar.specs.Forms.{nothing, empty, byte, seq, either, many, nested, optional, choice, sequence, may_end, is_live, is_same_form};
+ghost use Rattle.std.specs.Vec.Iter.{into_iter_items};
 
 use lk_val::NoMemory;
 use std::alloc::Global;
 use std::marker::Model;
 use std::rc::Rc;
+use std::vec::IntoIter;
 
 /// A grammar as a value, which clauses see as a form. A form that stands in several places is kept once.
 #[cycle(form)]
@@ -127,6 +130,80 @@ impl Form {
         Form::either(alloc, form, Form::empty())
     }
 
+    /// A text of one of the forms.
+    pub fn choice(alloc: Global, forms: Vec<Form>) -> Result<Form, NoMemory>
+        ensures { IfOk result (λ form. form ≡ choice forms.items) }
+    {
+        choice_of(alloc, &mut forms.into_iter())
+    }
+
+    /// A text of each form, one behind the other.
+    pub fn sequence(alloc: Global, forms: Vec<Form>) -> Result<Form, NoMemory>
+        ensures { IfOk result (λ form. form ≡ sequence forms.items) }
+    {
+        sequence_of(alloc, &mut forms.into_iter())
+    }
+
+    /// The bytes as they are written.
+    pub fn exactly(alloc: Global, bytes: &[u8]) -> Result<Form, NoMemory>
+        ensures { IfOk result (λ form. form ≡ exactly bytes.now) }
+    {
+        match bytes.split_first() {
+            None => Ok(Form::empty()),
+            Some((first, rest)) => Form::seq(
+                alloc,
+                Form::byte(*first),
+                Form::exactly(alloc, rest)?,
+            ),
+        }
+    }
+
+    /// A small letter in any case, and any other byte as it is.
+    pub fn char(alloc: Global, small: u8) -> Result<Form, NoMemory>
+        ensures { IfOk result (λ form. form ≡ char small) }
+    {
+        if small.is_ascii_lowercase() {
+            Form::either(alloc, Form::byte(small), Form::byte(small - 32))
+        } else {
+            Ok(Form::byte(small))
+        }
+    }
+
+    /// Letters in any case; they are given as small ones.
+    pub fn letters(alloc: Global, small: &[u8]) -> Result<Form, NoMemory>
+        ensures { IfOk result (λ form. form ≡ letters small.now) }
+    {
+        match small.split_first() {
+            None => Ok(Form::empty()),
+            Some((first, rest)) => Form::seq(
+                alloc,
+                Form::char(alloc, *first)?,
+                Form::letters(alloc, rest)?,
+            ),
+        }
+    }
+
+    /// Any number of spaces.
+    pub fn spaces(alloc: Global) -> Result<Form, NoMemory>
+        ensures { IfOk result (λ form. form ≡ spaces) }
+    {
+        Form::many(alloc, Form::byte(b' '))
+    }
+
+    /// The form with free spaces before it.
+    pub fn free(alloc: Global, form: Form) -> Result<Form, NoMemory>
+        ensures { IfOk result (λ made. made ≡ free form) }
+    {
+        Form::seq(alloc, Form::spaces(alloc)?, form)
+    }
+
+    /// A word: letters in any case, given as small ones, with free spaces before them.
+    pub fn word(alloc: Global, small: &[u8]) -> Result<Form, NoMemory>
+        ensures { IfOk result (λ form. form ≡ word small.now) }
+    {
+        Form::free(alloc, Form::letters(alloc, small)?)
+    }
+
     /// The same form, whose parts are shared and not copied.
     pub fn share(&self) -> Result<Form, NoMemory>
         ensures { IfOk result (λ form. form ≡ self.now) }
@@ -184,6 +261,30 @@ impl Form {
             (Shape::Many(form), Shape::Many(other)) => form.is_same(other),
             (Shape::Nested(rule), Shape::Nested(other)) => rule == other,
             _ => false,
+        }
+    }
+}
+
+fn choice_of(alloc: Global, forms: &mut IntoIter<Form>) -> Result<Form, NoMemory>
+    ensures { IfOk result (λ form. form ≡ choice (into_iter_items forms.old)) }
+{
+    match forms.next() {
+        None => Ok(Form::nothing()),
+        Some(form) => {
+            let others = choice_of(alloc, forms)?;
+            Form::either(alloc, form, others)
+        }
+    }
+}
+
+fn sequence_of(alloc: Global, forms: &mut IntoIter<Form>) -> Result<Form, NoMemory>
+    ensures { IfOk result (λ form. form ≡ sequence (into_iter_items forms.old)) }
+{
+    match forms.next() {
+        None => Ok(Form::empty()),
+        Some(form) => {
+            let rest = sequence_of(alloc, forms)?;
+            Form::seq(alloc, form, rest)
         }
     }
 }

@@ -3,10 +3,17 @@
 
 mod form;
 mod judging;
+mod lexer;
 mod places;
 mod stack;
 mod steps;
+mod word;
 
 pub use form::Form;
 pub use judging::{judge, judge_nested};
+pub use lexer::{Lexer, read_tokens};
 pub use places::{Machine, machines_find_places};
+pub use word::{Word, first_word, read_words};
+
+#[cfg(test)]
+mod tests;

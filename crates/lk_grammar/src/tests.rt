@@ -1,0 +1,196 @@
+mod numbers;
+
+use super::*;
+use lk_val::NoMemory;
+use std::alloc::Global;
+use std::test::Fail;
+
+fn place_of(form: &Form, text: &str, alloc: Global) -> Result<Option<usize>, Fail> {
+    Ok(judge(alloc, form, text.as_bytes()).or(Err("memory"))?)
+}
+
+#[test]
+fn number_filters_are_refused_where_they_stop_being_one(rt: HostRuntime) -> Result<(), Fail> {
+    let alloc = rt.alloc();
+    let form = numbers::numbers(alloc).or(Err("memory"))?;
+    let cases = [
+        ("", None),
+        ("  ", None),
+        ("5.25, -3", None),
+        ("NOT 5,7", None),
+        ("5to7 or 9 TO", None),
+        ("to 7", None),
+        ("[1, inf) or (-inf,5]", None),
+        (">=5 AND <7 and >6", None),
+        ("<>5, !=7, not null ", None),
+        ("5.", Some(2)),
+        ("5 t 7", Some(3)),
+        ("nope", Some(2)),
+        ("not <> 5", Some(5)),
+        (">= 5 and 7", Some(9)),
+        ("[5", Some(2)),
+        ("5,,6", Some(2)),
+        ("5 OR", Some(4)),
+        ("--5", Some(1)),
+        ("[5 7]", Some(3)),
+        ("5 to 7 to 9", Some(7)),
+        ("< =5", Some(2)),
+        ("1 0", Some(2)),
+        (" x", Some(1)),
+    ];
+    for (text, place) in cases {
+        assert_eq!(rt; place_of(&form, text, alloc)?, place, "of {text}");
+    }
+    Ok(())
+}
+
+// A digit, or a digit in brackets, which nest.
+fn bracketed(alloc: Global) -> Result<Form, NoMemory> {
+    let parts = vec![in alloc; Form::byte(b'('), Form::nested(0), Form::byte(b')')]?;
+    Form::either(
+        alloc,
+        Form::range(b'0', b'9'),
+        Form::sequence(alloc, parts)?,
+    )
+}
+
+#[test]
+fn brackets_nest_to_the_depth_and_no_deeper(rt: HostRuntime) -> Result<(), Fail> {
+    let alloc = rt.alloc();
+    let rules = vec![in alloc; bracketed(alloc).or(Err("memory"))?]?;
+    let cases = [
+        ("5", 2, None),
+        ("(5)", 2, None),
+        ("((5))", 2, None),
+        ("(((5)))", 2, Some(2)),
+        ("(((5)))", 3, None),
+        ("(5)", 0, Some(0)),
+        ("5", 0, None),
+        ("((5)", 2, Some(4)),
+        ("(5))", 2, Some(3)),
+        ("()", 2, Some(1)),
+        ("", 2, Some(0)),
+    ];
+    let form = bracketed(alloc).or(Err("memory"))?;
+    for (text, depth, place) in cases {
+        let judged = judge_nested(alloc, rules.as_slice(), depth, &form, text.as_bytes());
+        assert_eq!(rt; judged, Ok(place), "of {text} to {depth}");
+    }
+    Ok(())
+}
+
+#[test]
+fn a_rule_that_is_not_there_has_no_text(rt: HostRuntime) {
+    assert_eq!(rt;
+        judge_nested(rt.alloc(), &[], 5, &Form::nested(0), b"5"),
+        Ok(Some(0))
+    );
+}
+
+#[test]
+fn a_form_without_texts_is_refused_at_0(rt: HostRuntime) {
+    assert_eq!(rt; judge(rt.alloc(), &Form::nothing(), b""), Ok(Some(0)));
+    assert_eq!(rt;
+        judge(rt.alloc(), &Form::range(b'z', b'a'), b"m"),
+        Ok(Some(0))
+    );
+}
+
+#[test]
+fn words_with_a_common_front_are_told_apart(rt: HostRuntime) -> Result<(), Fail> {
+    let alloc = rt.alloc();
+    let less = Form::word(alloc, b"<").or(Err("memory"))?;
+    let at_most = Form::word(alloc, b"<=").or(Err("memory"))?;
+    let form = Form::either(alloc, less, at_most).or(Err("memory"))?;
+    let form = Form::seq(alloc, form, Form::range(b'0', b'9')).or(Err("memory"))?;
+    let cases = [
+        ("<5", None),
+        (" <=5", None),
+        ("<", Some(1)),
+        ("<=", Some(2)),
+        ("<>", Some(1)),
+        ("=", Some(0)),
+    ];
+    for (text, place) in cases {
+        assert_eq!(rt; place_of(&form, text, alloc)?, place, "of {text}");
+    }
+    Ok(())
+}
+
+#[test]
+fn many_of_a_choice_takes_its_texts_in_any_order(rt: HostRuntime) -> Result<(), Fail> {
+    let alloc = rt.alloc();
+    let choice = Form::either(
+        alloc,
+        Form::byte(b'a'),
+        Form::exactly(alloc, b"bc").or(Err("memory"))?,
+    );
+    let form = Form::many(alloc, choice.or(Err("memory"))?).or(Err("memory"))?;
+    let cases = [
+        ("", None),
+        ("abcbca", None),
+        ("ab", Some(2)),
+        ("abb", Some(2)),
+        ("c", Some(0)),
+    ];
+    for (text, place) in cases {
+        assert_eq!(rt; place_of(&form, text, alloc)?, place, "of {text}");
+    }
+    Ok(())
+}
+
+#[test]
+fn a_choice_of_many_texts_of_one_form_stays_small(rt: HostRuntime) -> Result<(), Fail> {
+    let alloc = rt.alloc();
+    let letter = Form::either(alloc, Form::byte(b'a'), Form::byte(b'a')).or(Err("memory"))?;
+    let form = Form::many(alloc, letter).or(Err("memory"))?;
+    let text = "aaaaaaaaaaaaaaaaaaaaaaaaaaaaaaaaaaaaaaaaaaaaaaaaaaaaaaaaaaaaaaaab";
+    assert_eq!(rt; place_of(&form, text, alloc)?, Some(64));
+    Ok(())
+}
+
+#[derive(Clone, Copy, Debug, PartialEq, Eq)]
+enum Sign {
+    AtMost,
+    Less,
+    Not,
+    Comma,
+}
+
+impl Word for Sign {
+    ghost use Rattle.lk_grammar.specs.Examples.{sign_letters};
+
+    ghost letters_of = { sign_letters };
+
+    fn letters(&self) -> &'static [u8] {
+        match self {
+            Sign::AtMost => b"<=",
+            Sign::Less => b"<",
+            Sign::Not => b"not",
+            Sign::Comma => b",",
+        }
+    }
+}
+
+#[test]
+fn words_are_read_with_spaces_and_in_any_case(rt: HostRuntime) -> Result<(), Fail> {
+    let alloc = rt.alloc();
+    let table = [Sign::AtMost, Sign::Less, Sign::Not, Sign::Comma];
+    let words = read_words(alloc, table.as_slice(), b" NOT<, <=not ").or(Err("memory"))?;
+    let words = words.ok_or("no words")?;
+    let expected = [Sign::Not, Sign::Less, Sign::Comma, Sign::AtMost, Sign::Not];
+    assert_eq!(rt; words.as_slice(), expected.as_slice());
+    let words = read_words(alloc, table.as_slice(), b"  ").or(Err("memory"))?;
+    assert_eq!(rt; words.ok_or("no words")?.len(), 0);
+    assert!(rt;
+        read_words(alloc, table.as_slice(), b"< =")
+            .or(Err("memory"))?
+            .is_none()
+    );
+    assert!(rt;
+        read_words(alloc, table.as_slice(), b"no")
+            .or(Err("memory"))?
+            .is_none()
+    );
+    Ok(())
+}
