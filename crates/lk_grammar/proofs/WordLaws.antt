@@ -6,9 +6,17 @@ use Rattle.std.proofs.lemmas.Bool.{false≢true, false_from_ne_true, leb-true}
 use Rattle.std.proofs.lemmas.Bool.Decides.{Decides-eqb}
 use Rattle.std.proofs.lemmas.Option.{some_pair_parts}
 use Rattle.lk_grammar.specs.Forms.{Form, IsText, IsJoined, IsByte, either}
-use Rattle.lk_grammar.specs.Words.{one, is_small, char, letters, spaces, is_char, after_letters, first_word, do_differ, is_apart, IsFirst, is_word, letter_starts, starts, is_next_word, IsClearWord, word_form}
+use Rattle.lk_grammar.specs.Words.{one, any_of, is_white, each_alone, is_small, char, letters, spaces, is_char, after_letters, first_word, do_differ, is_apart, IsFirst, is_word, letter_starts, starts, is_next_word, IsClearWord, word_form}
 use Rattle.lk_grammar.specs.Tokens.{tokens_form, IsBegun, IsLexer}
+use Rattle.lk_grammar.proofs.TokenLaws.{any_text}
 use Rattle.lk_grammar.proofs.FormLaws.{both, and_both, one_of, or_one, or_other}
+
+-- a text that begins with a space
+record IsWhiteHead (white text : List ℕ) : Type 0 where
+  head : ℕ
+  tail : List ℕ
+  is : text ≡ head ∷ tail
+  space : is_white white head ≡ true
 
 -- one byte that is the letter, in any case
 pub record IsCharText (letter : ℕ) (text : List ℕ) : Type 0 where
@@ -153,14 +161,36 @@ after_apart (a ∷ other) (letter ∷ small) front rest d h =
     ] in
     subst (λ z. after_letters (a ∷ other) z ≡ None) whole none
 
-parts_head : (parts : List (List ℕ)) → AllByRecursion (IsText (one 32)) parts → (concat parts ≡ []) ⊎ ((tail : List ℕ) × (concat parts ≡ 32 ∷ tail))
-parts_head [] each = inl refl
-parts_head (p ∷ parts) each = inr (concat parts, ap (λ z. z ++ concat parts) (text_one 32 p each.0))
+parts_head : (white : List ℕ) (parts : List (List ℕ)) → AllByRecursion (IsText (any_of white)) parts → (concat parts ≡ []) ⊎ IsWhiteHead white (concat parts)
+parts_head white [] each = inl refl
+parts_head white (p ∷ parts) each =
+    let a = any_text white p each.0 in
+    inr (record { head = a.value; tail = concat parts; is = ap (λ z. z ++ concat parts) a.alone; space = a.is })
 
 -- spaces are none or begin with one
-spaces_head : (text : List ℕ) → IsText spaces text → (text ≡ []) ⊎ ((tail : List ℕ) × (text ≡ 32 ∷ tail))
-spaces_head text h =
-    elim (parts_head h.parts h.each) [ inl e ↦ inl (h.joined ∙ e) | inr q ↦ inr (q.0, h.joined ∙ q.1) ]
+spaces_head : (white text : List ℕ) → IsText (spaces white) text → (text ≡ []) ⊎ IsWhiteHead white text
+spaces_head white text h =
+    elim (parts_head white h.parts h.each) [
+      | inl e ↦ inl (h.joined ∙ e)
+      | inr q ↦ inr (record { head = q.head; tail = q.tail; is = h.joined ∙ q.is; space = q.space })
+    ]
+
+-- what holds of each byte alone holds of each of them
+white_head : (P : List ℕ → Type 0) (white : List ℕ) (b : ℕ) → AllByRecursion P (each_alone white) → is_white white b ≡ true → P (b ∷ [])
+white_head P [] b each h = absurd (false≢true h)
+white_head P (w ∷ white) b each h =
+    elim (one_of (nat_eq b w) (is_white white b) h) [
+      | inl p ↦ subst (λ z. P (z ∷ [])) (sym (same b w p)) each.0
+      | inr q ↦ white_head P white b each.1 q
+    ]
+
+front_of : (P : List ℕ → Type 0) (xs ys : List (List ℕ)) → AllByRecursion P (xs ++ ys) → AllByRecursion P xs
+front_of P [] ys h = tt
+front_of P (x ∷ xs) ys h = (h.0, front_of P xs ys h.1)
+
+back_of : (P : List ℕ → Type 0) (xs ys : List (List ℕ)) → AllByRecursion P (xs ++ ys) → AllByRecursion P ys
+back_of P [] ys h = h
+back_of P (x ∷ xs) ys h = back_of P xs ys h.1
 
 letter_head : (P : List ℕ → Type 0) (letter b : ℕ) → is_char letter b ≡ true → P (letter ∷ []) → AllByRecursion P (if is_small letter then ((letter - 32) ∷ []) ∷ [] else []) → P (b ∷ [])
 letter_head P letter b c p =
@@ -178,28 +208,25 @@ letter_head P letter b c p =
     ] c
 
 -- spelled letters begin with one of their starts
-letters_head : (P : List ℕ → Type 0) (small front : List ℕ) → is_word small ≡ true → AllByRecursion P (letter_starts small) → IsText (letters small) front → (b : ℕ) × ((tail : List ℕ) × ((front ≡ b ∷ tail) × P (b ∷ [])))
-letters_head P [] front w f h = absurd (false≢true w)
-letters_head P (letter ∷ small) front w f h =
+letters_head : (P : List ℕ → Type 0) (white small front : List ℕ) → is_word white small ≡ true → AllByRecursion P (letter_starts small) → IsText (letters small) front → (b : ℕ) × ((tail : List ℕ) × ((front ≡ b ∷ tail) × P (b ∷ [])))
+letters_head P white [] front w f h = absurd (false≢true w)
+letters_head P white (letter ∷ small) front w f h =
     let c = text_char letter h.front h.first in
     (c.value, (h.back, (h.joined ∙ ap (λ z. z ++ h.back) c.alone, letter_head P letter c.value c.is f.0 f.1)))
 
-other_number : (a b : ℕ) → (a ≡ b → ⊥) → nat_eq a b ≡ false
-other_number a b h = false_from_ne_true (nat_eq a b) (λ e. h (same a b e))
-
 -- and with no space
-letters_begun : (small front : List ℕ) → is_word small ≡ true → IsText (letters small) front → IsBegun front
-letters_begun [] front w h = absurd (false≢true w)
-letters_begun (letter ∷ small) front w h =
+letters_begun : (white small front : List ℕ) → is_word white small ≡ true → IsText (letters small) front → IsBegun white front
+letters_begun white [] front w h = absurd (false≢true w)
+letters_begun white (letter ∷ small) front w h =
     let c = text_char letter h.front h.first in
-    let no_space : nat_eq c.value 32 ≡ false =
+    let n = both (not (is_white white letter)) (not (is_small letter && is_white white (letter - 32))) w in
+    let no_space : is_white white c.value ≡ false =
     elim (one_of (nat_eq c.value letter) (is_small letter && nat_eq c.value (letter - 32)) c.is) [
-      | inl p ↦ subst (λ z. nat_eq z 32 ≡ false) (sym (same c.value letter p)) (flipped (nat_eq letter 32) w)
+      | inl p ↦ subst (λ z. is_white white z ≡ false) (sym (same c.value letter p)) (flipped (is_white white letter) n.0)
       | inr q ↦
           let k = both (is_small letter) (nat_eq c.value (letter - 32)) q in
-          let from : 97 ≤ letter = small_from letter k.0 in
-          let e : c.value ≡ letter - 32 = same c.value (letter - 32) k.1 in
-          other_number c.value 32 (λ f. omega arith)
+          let no_capital = subst (λ b. (b && is_white white (letter - 32)) ≡ false) k.0 (flipped (is_small letter && is_white white (letter - 32)) n.1) in
+          subst (λ z. is_white white z ≡ false) (sym (same c.value (letter - 32) k.1)) no_capital
     ] in
     record { head = c.value; tail = h.back; is = h.joined ∙ ap (λ z. z ++ h.back) c.alone; no_space = no_space }
 
@@ -239,30 +266,31 @@ module _ {W : Type 0} (letters_of : W → List ℕ) where
   by_head (w ∷ ws) word b rest f =
       elim f [ inl e ↦ inl e | inr q ↦ inr (subst (λ i. i ≡ true) (apart_by_head (letters_of w) (letters_of word) b rest) q.0, by_head ws word b rest q.1) ]
 
-  -- a word that is first before each start of the next words is first before them
-  first_at : (table : List W) (word : W) (words : List W) (rest : List ℕ) → is_next_word letters_of words ≡ true → AllByRecursion (IsFirst letters_of table word) (starts letters_of words) → IsText (tokens_form (word_form letters_of) words) rest → IsFirst letters_of table word rest
-  first_at table word [] rest next f h =
-      elim (spaces_head rest h) [
-        | inl e ↦ subst (IsFirst letters_of table word) (sym e) f.0
-        | inr q ↦ subst (IsFirst letters_of table word) (sym q.1) (by_head table word 32 q.0 f.1.0)
-      ]
-  first_at table word (u ∷ us) rest next f h =
-      let first = h.first in
-      let whole : first.front ++ (first.back ++ h.back) ≡ rest = sym (h.joined ∙ ap (λ z. z ++ h.back) first.joined ∙ append_assoc first.front first.back h.back) in
-      elim (spaces_head first.front first.first) [
-        | inl e ↦
-            let l = letters_head (IsFirst letters_of table word) (letters_of u) first.back next f.1 first.second in
-            let starts : l.0 ∷ (l.1.0 ++ h.back) ≡ rest = ap (λ z. z ++ h.back) (sym l.1.1.0) ∙ ap (λ z. z ++ (first.back ++ h.back)) (sym e) ∙ whole in
-            subst (IsFirst letters_of table word) starts (by_head table word l.0 (l.1.0 ++ h.back) l.1.1.1)
-        | inr q ↦
-            let starts : 32 ∷ (q.0 ++ (first.back ++ h.back)) ≡ rest = ap (λ z. z ++ (first.back ++ h.back)) (sym q.1) ∙ whole in
-            subst (IsFirst letters_of table word) starts (by_head table word 32 (q.0 ++ (first.back ++ h.back)) f.0)
-      ]
+  module _ (white : List ℕ) (table : List W) where
+    -- a word that is first before each start of the next words is first before them
+    first_at : (word : W) (words : List W) (rest : List ℕ) → is_next_word white letters_of words ≡ true → AllByRecursion (IsFirst letters_of table word) (starts white letters_of words) → IsText (tokens_form white (word_form letters_of) words) rest → IsFirst letters_of table word rest
+    first_at word [] rest next f h =
+        elim (spaces_head white rest h) [
+          | inl e ↦ subst (IsFirst letters_of table word) (sym e) f.0
+          | inr q ↦ subst (IsFirst letters_of table word) (sym q.is) (by_head table word q.head q.tail (white_head (IsFirst letters_of table word) white q.head f.1 q.space))
+        ]
+    first_at word (u ∷ us) rest next f h =
+        let first = h.first in
+        let whole : first.front ++ (first.back ++ h.back) ≡ rest = sym (h.joined ∙ ap (λ z. z ++ h.back) first.joined ∙ append_assoc first.front first.back h.back) in
+        elim (spaces_head white first.front first.first) [
+          | inl e ↦
+              let l = letters_head (IsFirst letters_of table word) white (letters_of u) first.back next (front_of _ (letter_starts (letters_of u)) (each_alone white) f) first.second in
+              let begins : l.0 ∷ (l.1.0 ++ h.back) ≡ rest = ap (λ z. z ++ h.back) (sym l.1.1.0) ∙ ap (λ z. z ++ (first.back ++ h.back)) (sym e) ∙ whole in
+              subst (IsFirst letters_of table word) begins (by_head table word l.0 (l.1.0 ++ h.back) l.1.1.1)
+          | inr q ↦
+              let begins : q.head ∷ (q.tail ++ (first.back ++ h.back)) ≡ rest = ap (λ z. z ++ (first.back ++ h.back)) (sym q.is) ∙ whole in
+              subst (IsFirst letters_of table word) begins (by_head table word q.head (q.tail ++ (first.back ++ h.back)) (white_head (IsFirst letters_of table word) white q.head (back_of _ (letter_starts (letters_of u)) (each_alone white) f) q.space))
+        ]
 
-  -- the words of a table are a lexer's tokens
-  pub table_lexes : (table : List W) → IsLexer (word_form letters_of) (IsClearWord letters_of table) (first_word letters_of table)
-  table_lexes table = record {
-    before = λ text rest word e. first_before table text rest word e;
-    found = λ word words front rest clear h r. first_spelled table word front rest (first_at table word words rest clear.is_next clear.first r) h;
-    begun = λ word words front clear h. letters_begun (letters_of word) front clear.is_one h;
-  }
+    -- the words of a table are a lexer's tokens
+    pub table_lexes : IsLexer white (word_form letters_of) (IsClearWord white letters_of table) (first_word letters_of table)
+    table_lexes = record {
+      before = λ text rest word e. first_before table text rest word e;
+      found = λ word words front rest clear h r. first_spelled table word front rest (first_at word words rest clear.is_next clear.first r) h;
+      begun = λ word words front clear h. letters_begun white (letters_of word) front clear.is_one h;
+    }

@@ -1,8 +1,8 @@
 -- Words: letters in any case, and free spaces before a word.
-use Rattle.std.specs.Prelude.{◌≡◌, ◌⊎◌, ℕ, ◌-◌, ◌&&◌, ◌||◌, not, Bool, true, false, nat_eq, nat_le, List, [], ◌∷◌, Option, Some, None, option_map, if◌then◌else◌}
+use Rattle.std.specs.Prelude.{◌≡◌, ◌⊎◌, ℕ, ◌-◌, ◌&&◌, ◌||◌, not, Bool, true, false, nat_eq, nat_le, List, [], ◌∷◌, ◌++◌, map, Option, Some, None, option_map, if◌then◌else◌}
 use Rattle.std.specs.Option.{option_or}
-use Rattle.std.specs.List.{AllByRecursion}
-use Rattle.lk_grammar.specs.Forms.{Form, empty, byte, seq, either, many}
+use Rattle.std.specs.List.{list_any, AllByRecursion}
+use Rattle.lk_grammar.specs.Forms.{Form, nothing, empty, byte, seq, either, many}
 
 -- one byte
 abbrev pub one : ℕ → Form
@@ -26,17 +26,26 @@ abbrev pub letters : List ℕ → Form
 letters [] = empty
 letters (b ∷ bs) = seq (char b) (letters bs)
 
--- any number of spaces
-abbrev pub spaces : Form
-spaces = many (one 32)
+-- one of the bytes
+abbrev pub any_of : List ℕ → Form
+any_of [] = nothing
+any_of (b ∷ bs) = either (one b) (any_of bs)
+
+-- any number of spaces, which are the white bytes
+abbrev pub spaces : List ℕ → Form
+spaces white = many (any_of white)
 
 -- the form with free spaces before it
-abbrev pub free : Form → Form
-free form = seq spaces form
+abbrev pub free : List ℕ → Form → Form
+free white form = seq (spaces white) form
 
 -- a word: letters in any case with free spaces before them
-abbrev pub word : List ℕ → Form
-word bs = free (letters bs)
+abbrev pub word : List ℕ → List ℕ → Form
+word white bs = free white (letters bs)
+
+-- the byte is a space
+abbrev pub is_white : List ℕ → ℕ → Bool
+is_white white b = list_any (nat_eq b) white
 
 -- a byte is the letter, in any case
 abbrev pub is_char : ℕ → ℕ → Bool
@@ -71,31 +80,35 @@ IsFirst letters_of [] word rest = ⊥
 IsFirst letters_of (w ∷ ws) word rest =
     (word ≡ w) ⊎ ((is_apart (letters_of w) (letters_of word) rest ≡ true) × IsFirst letters_of ws word rest)
 
--- letters that a word may have: there are some, and no space comes first
-abbrev pub is_word : List ℕ → Bool
-is_word [] = false
-is_word (letter ∷ rest) = not (nat_eq letter 32)
+-- letters that a word may have: there are some, and the first is no space in either case
+abbrev pub is_word : List ℕ → List ℕ → Bool
+is_word white [] = false
+is_word white (letter ∷ rest) = not (is_white white letter) && not (is_small letter && is_white white (letter - 32))
 
 -- the first byte of the letters, in each case
 abbrev pub letter_starts : List ℕ → List (List ℕ)
 letter_starts [] = []
 letter_starts (letter ∷ rest) = (letter ∷ []) ∷ (if is_small letter then ((letter - 32) ∷ []) ∷ [] else [])
 
--- the first bytes that the words and the spaces before them may begin with
-abbrev pub starts : {W : Type 0} → (W → List ℕ) → List W → List (List ℕ)
-starts letters_of [] = [] ∷ (32 ∷ []) ∷ []
-starts letters_of (word ∷ words) = (32 ∷ []) ∷ letter_starts (letters_of word)
+-- the bytes one by one
+abbrev pub each_alone : List ℕ → List (List ℕ)
+each_alone bytes = map (λ b. b ∷ []) bytes
+
+-- the first bytes that the words and the spaces around them may begin with
+abbrev pub starts : {W : Type 0} → List ℕ → (W → List ℕ) → List W → List (List ℕ)
+starts white letters_of [] = [] ∷ each_alone white
+starts white letters_of (word ∷ words) = letter_starts (letters_of word) ++ each_alone white
 
 -- the next word, if there is one, has letters
-abbrev pub is_next_word : {W : Type 0} → (W → List ℕ) → List W → Bool
-is_next_word letters_of [] = true
-is_next_word letters_of (word ∷ words) = is_word (letters_of word)
+abbrev pub is_next_word : {W : Type 0} → List ℕ → (W → List ℕ) → List W → Bool
+is_next_word white letters_of [] = true
+is_next_word white letters_of (word ∷ words) = is_word white (letters_of word)
 
 -- the word has letters and is read as itself, whatever of the next words comes behind it
-pub record IsClearWord {W : Type 0} (letters_of : W → List ℕ) (table : List W) (word : W) (words : List W) : Type 0 where
-  pub is_one : is_word (letters_of word) ≡ true
-  pub is_next : is_next_word letters_of words ≡ true
-  pub first : AllByRecursion (IsFirst letters_of table word) (starts letters_of words)
+pub record IsClearWord {W : Type 0} (white : List ℕ) (letters_of : W → List ℕ) (table : List W) (word : W) (words : List W) : Type 0 where
+  pub is_one : is_word white (letters_of word) ≡ true
+  pub is_next : is_next_word white letters_of words ≡ true
+  pub first : AllByRecursion (IsFirst letters_of table word) (starts white letters_of words)
 
 -- a word of a table, by its letters
 abbrev pub word_form : {W : Type 0} → (W → List ℕ) → W → Form

@@ -1,5 +1,5 @@
 ghost use Rattle.std.specs.Prelude.{◌≡◌, IfOk, length};
-ghost use Rattle.lk_grammar.specs.Words.{exactly, char, letters, spaces, free, word};
+ghost use Rattle.lk_grammar.specs.Words.{exactly, char, letters, any_of, spaces, free, word};
 ghost use Rattle.lk_grammar.specs.Forms.{nothing, empty, byte, seq, either, many, nested, optional, choice, sequence, may_end, is_live, is_same_form};
 ghost use Rattle.std.specs.Vec.Iter.{into_iter_items};
 
@@ -183,25 +183,39 @@ impl Form {
         }
     }
 
-    /// Any number of spaces.
-    pub fn spaces(alloc: Global) -> Result<Form, NoMemory>
-        ensures { IfOk result (λ form. form ≡ spaces) }
+    /// One of the bytes.
+    pub fn any_of(alloc: Global, bytes: &[u8]) -> Result<Form, NoMemory>
+        ensures { IfOk result (λ form. form ≡ any_of bytes.now) }
     {
-        Form::many(alloc, Form::byte(b' '))
+        match bytes.split_first() {
+            None => Ok(Form::nothing()),
+            Some((first, rest)) => Form::either(
+                alloc,
+                Form::byte(*first),
+                Form::any_of(alloc, rest)?,
+            ),
+        }
+    }
+
+    /// Any number of spaces, which are the white bytes.
+    pub fn spaces(alloc: Global, white: &[u8]) -> Result<Form, NoMemory>
+        ensures { IfOk result (λ form. form ≡ spaces white.now) }
+    {
+        Form::many(alloc, Form::any_of(alloc, white)?)
     }
 
     /// The form with free spaces before it.
-    pub fn free(alloc: Global, form: Form) -> Result<Form, NoMemory>
-        ensures { IfOk result (λ made. made ≡ free form) }
+    pub fn free(alloc: Global, white: &[u8], form: Form) -> Result<Form, NoMemory>
+        ensures { IfOk result (λ made. made ≡ free white.now form) }
     {
-        Form::seq(alloc, Form::spaces(alloc)?, form)
+        Form::seq(alloc, Form::spaces(alloc, white)?, form)
     }
 
     /// A word: letters in any case, given as small ones, with free spaces before them.
-    pub fn word(alloc: Global, small: &[u8]) -> Result<Form, NoMemory>
-        ensures { IfOk result (λ form. form ≡ word small.now) }
+    pub fn word(alloc: Global, white: &[u8], small: &[u8]) -> Result<Form, NoMemory>
+        ensures { IfOk result (λ form. form ≡ word white.now small.now) }
     {
-        Form::free(alloc, Form::letters(alloc, small)?)
+        Form::free(alloc, white, Form::letters(alloc, small)?)
     }
 
     /// The same form, whose parts are shared and not copied.

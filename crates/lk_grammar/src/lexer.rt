@@ -1,4 +1,5 @@
 ghost use Rattle.std.specs.Prelude.{◌≡◌, IfOk};
+ghost use Rattle.lk_grammar.specs.Words.{is_white};
 ghost use Rattle.lk_grammar.specs.Tokens.{tokens_of, skip_spaces};
 
 use lk_val::{Items, NoMemory};
@@ -26,14 +27,15 @@ pub trait Lexer {
 pub fn read_tokens<L: Lexer>(
     alloc: Global,
     lexer: &L,
+    white: &[u8],
     text: &[u8],
 ) -> Result<Option<Items<L::Token>>, NoMemory>
 where
     L::Token: Drop,
-    ensures { IfOk result (λ found. found ≡ tokens_of (L.first_token lexer.now) text.now) }
+    ensures { IfOk result (λ found. found ≡ tokens_of white.now (L.first_token lexer.now) text.now) }
 {
     let mut tokens = Items::new(alloc);
-    let mut rest = skip_spaces(text);
+    let mut rest = skip_spaces(white, text);
     for _used in text {
         if rest.is_empty() {
             return Ok(Some(tokens));
@@ -42,7 +44,7 @@ where
             return Ok(None);
         };
         tokens.push(token)?;
-        rest = skip_spaces(behind);
+        rest = skip_spaces(white, behind);
     }
     if rest.is_empty() {
         Ok(Some(tokens))
@@ -51,15 +53,23 @@ where
     }
 }
 
-fn skip_spaces(text: &[u8]) -> &[u8]
-    ensures { result.now ≡ skip_spaces text.now }
+fn skip_spaces<'a>(white: &[u8], text: &'a [u8]) -> &'a [u8]
+    ensures { result.now ≡ skip_spaces white.now text.now }
 {
     match text.split_first() {
-        Some((first, rest)) => if *first == b' ' {
-            skip_spaces(rest)
-        } else {
-            text
-        },
+        Some((first, rest)) => {
+            if is_white(white, *first) {
+                skip_spaces(white, rest)
+            } else {
+                text
+            }
+        }
         None => text,
     }
+}
+
+fn is_white(white: &[u8], byte: u8) -> bool
+    ensures { result ≡ is_white white.now byte }
+{
+    white.iter().any(|space| byte == *space)
 }

@@ -99,8 +99,8 @@ fn a_form_without_texts_is_refused_at_0(rt: HostRuntime) {
 #[test]
 fn words_with_a_common_front_are_told_apart(rt: HostRuntime) -> Result<(), Fail> {
     let alloc = rt.alloc();
-    let less = Form::word(alloc, b"<").or(Err("memory"))?;
-    let at_most = Form::word(alloc, b"<=").or(Err("memory"))?;
+    let less = Form::word(alloc, b" ", b"<").or(Err("memory"))?;
+    let at_most = Form::word(alloc, b" ", b"<=").or(Err("memory"))?;
     let form = Form::either(alloc, less, at_most).or(Err("memory"))?;
     let form = Form::seq(alloc, form, Form::range(b'0', b'9')).or(Err("memory"))?;
     let cases = [
@@ -149,48 +149,53 @@ fn a_choice_of_many_texts_of_one_form_stays_small(rt: HostRuntime) -> Result<(),
     Ok(())
 }
 
-#[derive(Clone, Copy, Debug, PartialEq, Eq)]
-enum Sign {
-    AtMost,
-    Less,
-    Not,
-    Comma,
+#[derive(Clone, Copy)]
+struct Sign {
+    letters: &'static [u8],
 }
 
 impl Word for Sign {
-    ghost use Rattle.lk_grammar.specs.Examples.{sign_letters};
-
-    ghost letters_of = { sign_letters };
+    ghost letters_of = { λ sign. sign.letters.now };
 
     fn letters(&self) -> &'static [u8] {
-        match self {
-            Sign::AtMost => b"<=",
-            Sign::Less => b"<",
-            Sign::Not => b"not",
-            Sign::Comma => b",",
+        self.letters
+    }
+}
+
+fn is_read(table: &[Sign], text: &[u8], expected: &[&[u8]], alloc: Global) -> Result<bool, Fail> {
+    let words = read_words(alloc, b" ", table, text)
+        .or(Err("memory"))?
+        .ok_or("no words")?;
+    if words.len() != expected.len() {
+        return Ok(false);
+    }
+    for (word, letters) in words.as_slice().iter().zip(expected) {
+        if word.letters != *letters {
+            return Ok(false);
         }
     }
+    Ok(true)
 }
 
 #[test]
 fn words_are_read_with_spaces_and_in_any_case(rt: HostRuntime) -> Result<(), Fail> {
     let alloc = rt.alloc();
-    let table = [Sign::AtMost, Sign::Less, Sign::Not, Sign::Comma];
-    let words = read_words(alloc, table.as_slice(), b" NOT<, <=not ").or(Err("memory"))?;
-    let words = words.ok_or("no words")?;
-    let expected = [Sign::Not, Sign::Less, Sign::Comma, Sign::AtMost, Sign::Not];
-    assert_eq!(rt; words.as_slice(), expected.as_slice());
-    let words = read_words(alloc, table.as_slice(), b"  ").or(Err("memory"))?;
-    assert_eq!(rt; words.ok_or("no words")?.len(), 0);
-    assert!(rt;
-        read_words(alloc, table.as_slice(), b"< =")
-            .or(Err("memory"))?
-            .is_none()
-    );
-    assert!(rt;
-        read_words(alloc, table.as_slice(), b"no")
-            .or(Err("memory"))?
-            .is_none()
-    );
+    let words: [&'static [u8]; 4] = [b"<=", b"<", b"not", b","];
+    let table = [words[0], words[1], words[2], words[3]].map(|letters| Sign { letters });
+    let cases: [(&str, &[&[u8]]); 3] = [
+        (" NOT<, <=not ", &[b"not", b"<", b",", b"<=", b"not"]),
+        ("<<=", &[b"<", b"<="]),
+        ("  ", &[]),
+    ];
+    for (text, expected) in cases {
+        assert!(rt;
+            is_read(table.as_slice(), text.as_bytes(), expected, alloc)?,
+            "of {text}"
+        );
+    }
+    for text in ["< =", "no", "not a"] {
+        let words = read_words(alloc, b" ", table.as_slice(), text.as_bytes()).or(Err("memory"))?;
+        assert!(rt; words.is_none(), "of {text}");
+    }
     Ok(())
 }

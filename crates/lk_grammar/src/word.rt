@@ -43,13 +43,14 @@ impl<'a, W: Word> Lexer for Table<'a, W> {
 /// The words of the table that the text spells, and none where it spells none that stand clear of one another.
 pub fn read_words<W: Word>(
     alloc: Global,
+    white: &[u8],
     table: &[W],
     text: &[u8],
 ) -> Result<Option<Items<W>>, NoMemory>
-    ensures spelled { IfOk result (λ found. IfSome found (λ words. IsText (tokens_form (word_form W.letters_of) words) text.now)) }
-    ensures every { IfOk result (λ found. (words : List W) → AreClear (IsClearWord W.letters_of table.now) words → IsText (tokens_form (word_form W.letters_of) words) text.now → found ≡ Some words) }
+    ensures spelled { IfOk result (λ found. IfSome found (λ words. IsText (tokens_form white.now (word_form W.letters_of) words) text.now)) }
+    ensures every { IfOk result (λ found. (words : List W) → AreClear (IsClearWord white.now W.letters_of table.now) words → IsText (tokens_form white.now (word_form W.letters_of) words) text.now → found ≡ Some words) }
 {
-    read_tokens(alloc, &Table { words: table }, text)
+    read_tokens(alloc, &Table { words: table }, white, text)
 }
 
 /// The first word of the table that the text begins with, and what is behind it. A word with a front that is a

@@ -3,6 +3,10 @@ use crate::Form;
 use lk_val::NoMemory;
 use std::alloc::Global;
 
+fn word(alloc: Global, small: &[u8]) -> Result<Form, NoMemory> {
+    Form::word(alloc, b" ", small)
+}
+
 fn digits(alloc: Global) -> Result<Form, NoMemory> {
     Form::seq(
         alloc,
@@ -18,35 +22,36 @@ fn number(alloc: Global) -> Result<Form, NoMemory> {
     let digits = digits(alloc)?;
     Form::free(
         alloc,
+        b" ",
         Form::sequence(alloc, vec![in alloc; sign, digits, places]?)?,
     )
 }
 
 fn comparison(alloc: Global) -> Result<Form, NoMemory> {
     let words = vec![in alloc;
-        Form::word(alloc, b"<=")?,
-        Form::word(alloc, b">=")?,
-        Form::word(alloc, b"<")?,
-        Form::word(alloc, b">")?,
+        word(alloc, b"<=")?,
+        word(alloc, b">=")?,
+        word(alloc, b"<")?,
+        word(alloc, b">")?,
     ]?;
     Form::seq(alloc, Form::choice(alloc, words)?, number(alloc)?)
 }
 
 fn comparisons(alloc: Global) -> Result<Form, NoMemory> {
-    let more = Form::seq(alloc, Form::word(alloc, b"and")?, comparison(alloc)?)?;
+    let more = Form::seq(alloc, word(alloc, b"and")?, comparison(alloc)?)?;
     Form::seq(alloc, comparison(alloc)?, Form::many(alloc, more)?)
 }
 
 fn end(alloc: Global) -> Result<Form, NoMemory> {
-    let inf = Form::word(alloc, b"inf")?;
-    let minus_inf = Form::word(alloc, b"-inf")?;
+    let inf = word(alloc, b"inf")?;
+    let minus_inf = word(alloc, b"-inf")?;
     Form::choice(alloc, vec![in alloc; number(alloc)?, inf, minus_inf]?)
 }
 
 fn interval(alloc: Global) -> Result<Form, NoMemory> {
-    let open = Form::either(alloc, Form::word(alloc, b"[")?, Form::word(alloc, b"(")?)?;
-    let close = Form::either(alloc, Form::word(alloc, b"]")?, Form::word(alloc, b")")?)?;
-    let comma = Form::word(alloc, b",")?;
+    let open = Form::either(alloc, word(alloc, b"[")?, word(alloc, b"(")?)?;
+    let close = Form::either(alloc, word(alloc, b"]")?, word(alloc, b")")?)?;
+    let comma = word(alloc, b",")?;
     Form::sequence(
         alloc,
         vec![in alloc; open, end(alloc)?, comma, end(alloc)?, close]?,
@@ -55,12 +60,12 @@ fn interval(alloc: Global) -> Result<Form, NoMemory> {
 
 fn from_number(alloc: Global) -> Result<Form, NoMemory> {
     let upto = Form::optional(alloc, number(alloc)?)?;
-    let to = Form::seq(alloc, Form::word(alloc, b"to")?, upto)?;
+    let to = Form::seq(alloc, word(alloc, b"to")?, upto)?;
     Form::seq(alloc, number(alloc)?, Form::optional(alloc, to)?)
 }
 
 fn range(alloc: Global) -> Result<Form, NoMemory> {
-    let to_number = Form::seq(alloc, Form::word(alloc, b"to")?, number(alloc)?)?;
+    let to_number = Form::seq(alloc, word(alloc, b"to")?, number(alloc)?)?;
     let ranges = vec![in alloc;
         from_number(alloc)?,
         comparisons(alloc)?,
@@ -71,20 +76,16 @@ fn range(alloc: Global) -> Result<Form, NoMemory> {
 }
 
 fn item(alloc: Global) -> Result<Form, NoMemory> {
-    let tested = Form::either(alloc, range(alloc)?, Form::word(alloc, b"null")?)?;
-    let tested = Form::seq(
-        alloc,
-        Form::optional(alloc, Form::word(alloc, b"not")?)?,
-        tested,
-    )?;
-    let differs = Form::either(alloc, Form::word(alloc, b"<>")?, Form::word(alloc, b"!=")?)?;
+    let tested = Form::either(alloc, range(alloc)?, word(alloc, b"null")?)?;
+    let tested = Form::seq(alloc, Form::optional(alloc, word(alloc, b"not")?)?, tested)?;
+    let differs = Form::either(alloc, word(alloc, b"<>")?, word(alloc, b"!=")?)?;
     Form::either(alloc, tested, Form::seq(alloc, differs, number(alloc)?)?)
 }
 
 pub fn numbers(alloc: Global) -> Result<Form, NoMemory> {
-    let comma = Form::either(alloc, Form::word(alloc, b",")?, Form::word(alloc, b"or")?)?;
+    let comma = Form::either(alloc, word(alloc, b",")?, word(alloc, b"or")?)?;
     let more = Form::many(alloc, Form::seq(alloc, comma, item(alloc)?)?)?;
-    let items = vec![in alloc; item(alloc)?, more, Form::spaces(alloc)?]?;
+    let items = vec![in alloc; item(alloc)?, more, Form::spaces(alloc, b" ")?]?;
     let items = Form::sequence(alloc, items)?;
-    Form::either(alloc, Form::spaces(alloc)?, items)
+    Form::either(alloc, Form::spaces(alloc, b" ")?, items)
 }
