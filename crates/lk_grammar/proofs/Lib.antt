@@ -5,3 +5,4 @@ pub mod StepLaws
 pub mod MachineLaws
 pub mod TokenLaws
 pub mod WordLaws
+pub mod NameLaws

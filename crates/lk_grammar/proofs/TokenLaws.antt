@@ -1,18 +1,18 @@
 -- Tokens: what is read is spelled so, and what is spelled by tokens that stand clear of one another is read.
-use Rattle.std.proofs.Common.{◌≡◌, inl, inr, ℕ, zero, suc, ◌≤◌, ◌<◌, Bool, true, false, nat_eq, List, [], ◌∷◌, ◌++◌, length, Option, Some, None, option_map, IfSome, IfOk, Result, if◌then◌else◌, refl, sym, ap, subst, ◌∙◌, append_assoc, arith, length-append, drop, drop-cons, add-one, ◌+◌}
+use Rattle.std.proofs.Common.{◌≡◌, inl, inr, ℕ, suc, ◌≤◌, ◌<◌, true, false, nat_eq, List, [], ◌∷◌, ◌++◌, length, Option, Some, None, option_map, IfSome, IfOk, Result, if◌then◌else◌, refl, sym, ap, subst, ◌∙◌, append_assoc, arith, length-append, drop, drop-cons, add-one, ◌+◌}
 use Rattle.std.specs.List.{concat, list_any, AllByRecursion}
 use Rattle.std.proofs.lemmas.Result.{IfOk-weaker}
 use Rattle.std.proofs.lemmas.Bool.{false≢true}
 use Rattle.std.proofs.lemmas.List.{append-nil}
 use Rattle.std.proofs.lemmas.List.Folds.{concat-append}
 use Rattle.std.proofs.lemmas.Bool.Decides.{Decides-eqb}
-use Rattle.lk_grammar.specs.Forms.{Form, IsText, IsTextAt, IsJoined, IsByte, IsRepeated, IsRuleText, IsSpelled}
-use Rattle.lk_grammar.specs.Words.{one, any_of, spaces, is_white}
+use Rattle.lk_grammar.specs.Forms.{Form, IsText, IsJoined}
+use Rattle.lk_grammar.specs.Words.{any_of, spaces, is_white}
 use Rattle.lk_grammar.proofs.FormLaws.{one_of, or_one, or_other}
 use Rattle.lk_grammar.specs.Tokens.{tokens_form, skip_spaces, then_tokens, tokens_from, tokens_of, AreClear, IsBegun, IsLexer}
 
 -- a byte of several is one of them, and is written alone
-any_byte : (bytes : List ℕ) (b : ℕ) → list_any (nat_eq b) bytes ≡ true → IsText (any_of bytes) (b ∷ [])
+pub any_byte : (bytes : List ℕ) (b : ℕ) → list_any (nat_eq b) bytes ≡ true → IsText (any_of bytes) (b ∷ [])
 any_byte [] b h = absurd (false≢true h)
 any_byte (c ∷ bytes) b h =
     elim (one_of (nat_eq b c) (list_any (nat_eq b) bytes) h) [

@@ -1,11 +1,11 @@
 -- Words: a table's word is read where it is spelled, and is spelled where it is read.
-use Rattle.std.proofs.Common.{◌≡◌, ◌⊎◌, inl, inr, ℕ, zero, suc, ◌-◌, ◌≤◌, ◌<◌, Bool, true, false, not, ◌&&◌, ◌||◌, nat_eq, nat_le, List, [], ◌∷◌, ◌++◌, length, Option, Some, None, option_map, if◌then◌else◌, refl, sym, ap, subst, ◌∙◌, append_assoc, arith}
+use Rattle.std.proofs.Common.{◌≡◌, ◌⊎◌, inl, inr, ℕ, ◌-◌, ◌≤◌, Bool, true, false, not, ◌&&◌, ◌||◌, nat_eq, nat_le, List, [], ◌∷◌, ◌++◌, Some, None, option_map, if◌then◌else◌, refl, sym, ap, subst, ◌∙◌, append_assoc, arith}
 use Rattle.std.specs.Option.{option_or}
 use Rattle.std.specs.List.{concat, AllByRecursion}
-use Rattle.std.proofs.lemmas.Bool.{false≢true, false_from_ne_true, leb-true}
+use Rattle.std.proofs.lemmas.Bool.{false≢true, leb-true}
 use Rattle.std.proofs.lemmas.Bool.Decides.{Decides-eqb}
 use Rattle.std.proofs.lemmas.Option.{some_pair_parts}
-use Rattle.lk_grammar.specs.Forms.{Form, IsText, IsJoined, IsByte, either}
+use Rattle.lk_grammar.specs.Forms.{IsText, IsJoined, either}
 use Rattle.lk_grammar.specs.Words.{one, any_of, is_white, each_alone, is_small, char, letters, spaces, is_char, after_letters, first_word, do_differ, is_apart, IsFirst, is_word, letter_starts, starts, is_next_word, IsClearWord, word_form}
 use Rattle.lk_grammar.specs.Tokens.{tokens_form, IsBegun, IsLexer}
 use Rattle.lk_grammar.proofs.TokenLaws.{any_text}
@@ -99,10 +99,10 @@ flipped true h = absurd (false≢true h)
 flipped false h = refl
 
 -- no byte is both of two letters that differ
-small_from : (a : ℕ) → is_small a ≡ true → 97 ≤ a
+pub small_from : (a : ℕ) → is_small a ≡ true → 97 ≤ a
 small_from a h = leb-true 97 a (both (nat_le 97 a) (nat_le a 122) h).0
 
-small_upto : (a : ℕ) → is_small a ≡ true → a ≤ 122
+pub small_upto : (a : ℕ) → is_small a ≡ true → a ≤ 122
 small_upto a h = leb-true a 122 (both (nat_le 97 a) (nat_le a 122) h).1
 
 -- a byte that is both of two letters: they do not differ

@@ -6,3 +6,4 @@ pub mod Stacks
 pub mod Steps
 pub mod Words
 pub mod Tokens
+pub mod Names

@@ -1,5 +1,5 @@
 -- Tokens: texts that are written one behind the other with free spaces, and how they are taken off a text.
-use Rattle.std.specs.Prelude.{◌≡◌, ℕ, Bool, false, List, [], ◌∷◌, ◌++◌, Option, Some, None, option_map, if◌then◌else◌}
+use Rattle.std.specs.Prelude.{◌≡◌, ℕ, false, List, [], ◌∷◌, ◌++◌, Option, Some, None, option_map, if◌then◌else◌}
 use Rattle.lk_grammar.specs.Forms.{Form, seq, IsText, IsJoined}
 use Rattle.lk_grammar.specs.Words.{spaces, free, is_white}
 

@@ -4,6 +4,7 @@
 mod form;
 mod judging;
 mod lexer;
+mod names;
 mod places;
 mod stack;
 mod steps;
@@ -12,6 +13,7 @@ mod word;
 pub use form::Form;
 pub use judging::{judge, judge_nested};
 pub use lexer::{Lexer, read_tokens};
+pub use names::{name_but, names_are_no_keywords};
 pub use places::{Machine, machines_find_places};
 pub use word::{Word, first_word, read_words};
 

@@ -1,7 +1,7 @@
 mod numbers;
 
 use super::*;
-use lk_val::NoMemory;
+use lk_val::{Bytes, NoMemory};
 use std::alloc::Global;
 use std::test::Fail;
 
@@ -196,6 +196,46 @@ fn words_are_read_with_spaces_and_in_any_case(rt: HostRuntime) -> Result<(), Fai
     for text in ["< =", "no", "not a"] {
         let words = read_words(alloc, b" ", table.as_slice(), text.as_bytes()).or(Err("memory"))?;
         assert!(rt; words.is_none(), "of {text}");
+    }
+    Ok(())
+}
+
+// A name, or the word `not` and a name behind it: between words and names stand spaces or nothing.
+fn negated(alloc: Global) -> Result<Form, NoMemory> {
+    let words = vec![in alloc;
+        Bytes::from_slice(alloc, b"not")?,
+        Bytes::from_slice(alloc, b"null")?,
+    ]?;
+    let name = name_but(alloc, b"abnotu", b"abnotul1", words.as_slice())?;
+    let spaced = vec![in alloc;
+        Form::letters(alloc, b"not")?,
+        Form::byte(b' '),
+        name.share()?,
+    ]?;
+    Form::either(alloc, Form::sequence(alloc, spaced)?, name)
+}
+
+#[test]
+fn a_name_is_none_of_the_words(rt: HostRuntime) -> Result<(), Fail> {
+    let alloc = rt.alloc();
+    let form = negated(alloc).or(Err("memory"))?;
+    let cases = [
+        ("nota", None),
+        ("no", None),
+        ("nul", None),
+        ("nulla", None),
+        ("NOT a", None),
+        ("a1", None),
+        ("not", Some(3)),
+        ("null", Some(4)),
+        ("1a", Some(0)),
+        ("not not", Some(7)),
+        ("null ", Some(4)),
+        ("not  a", Some(4)),
+        ("", Some(0)),
+    ];
+    for (text, place) in cases {
+        assert_eq!(rt; place_of(&form, text, alloc)?, place, "of {text}");
     }
     Ok(())
 }

@@ -83,7 +83,7 @@ fn after_letters<'a>(small: &[u8], text: &'a [u8]) -> Option<&'a [u8]>
     }
 }
 
-fn is_char(letter: u8, byte: u8) -> bool
+pub(crate) fn is_char(letter: u8, byte: u8) -> bool
     ensures { result ≡ is_char letter byte }
 {
     byte == letter || letter.is_ascii_lowercase() && byte == letter - 32
