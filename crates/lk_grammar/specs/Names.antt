@@ -51,7 +51,7 @@ of_none letters class = filter (λ b. not (list_any (λ letter. is_char letter b
 abbrev pub branch : (List (List ℕ) → Form) → List ℕ → List (List ℕ) → ℕ → Form
 branch rest first words letter = seq (any_of (of_letter letter first)) (rest (behind letter words))
 
--- the same for one of the letters
+-- the branch of one of the letters
 abbrev pub branches : (List (List ℕ) → Form) → List ℕ → List (List ℕ) → List ℕ → Form
 branches rest first words letters = choice (map (branch rest first words) letters)
 

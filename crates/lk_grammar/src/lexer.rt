@@ -56,16 +56,14 @@ where
 fn skip_spaces<'a>(white: &[u8], text: &'a [u8]) -> &'a [u8]
     ensures { result.now ≡ skip_spaces white.now text.now }
 {
-    match text.split_first() {
-        Some((first, rest)) => {
-            if is_white(white, *first) {
-                skip_spaces(white, rest)
-            } else {
-                text
-            }
+    let mut rest = text;
+    while let Some((first, behind)) = rest.split_first() {
+        if !is_white(white, *first) {
+            return rest;
         }
-        None => text,
+        rest = behind;
     }
+    rest
 }
 
 fn is_white(white: &[u8], byte: u8) -> bool
