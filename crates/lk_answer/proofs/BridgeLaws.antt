@@ -1,8 +1,7 @@
 -- A query over one view answers what it answers over that view as an explore of joined views.
-use Rattle.std.proofs.Common.{◌≡◌, ◌+◌, ◌<◌, ◌≤◌, ℕ, zero, suc, Bool, true, false, cond, ◌||◌, eq-eqb, List, [], ◌∷◌, ◌++◌, length, map, refl, sym, ap, ◌∙◌, arith, Option, Some, None, length-append, append_assoc, append-nil, subst}
-use Rattle.std.specs.Prelude.{filter, flat_map, take, nat_le, nat_eq, slice_index_or, position, unwrap_or}
+use Rattle.std.proofs.Common.{◌≡◌, ◌+◌, ◌<◌, ℕ, zero, suc, Bool, true, false, ◌||◌, eq-eqb, List, [], ◌∷◌, ◌++◌, length, map, refl, sym, ap, ◌∙◌, arith, length-append, append_assoc, append-nil, subst}
+use Rattle.std.specs.Prelude.{filter, flat_map, take, nat_le, nat_eq, slice_index_or}
 use Rattle.std.specs.List.{AllByRecursion, enumerate_from}
-use Rattle.std.specs.Ordering.{on}
 use Rattle.std.proofs.lemmas.List.{length-map, take-map, map-append}
 use Rattle.std.proofs.lemmas.Simd.{map-map}
 use Rattle.lk_val.specs.Sets.{set_of}
@@ -20,23 +19,21 @@ use Rattle.lk_plain.specs.declared.explore.Pick.TheVariants as view_pick
 use Rattle.lk_plain.specs.declared.explore.Bound.{Bound as ViewBound}
 use Rattle.lk_plain.specs.Answers as view
 use Rattle.lk_plain.specs.Rows as view_rows
-use Rattle.lk_plain.specs.Grouping.{cells_of, columns_of, group_set, places_of, grouped, line_over, cell_over}
+use Rattle.lk_plain.specs.Grouping.{cells_of, columns_of, group_set, places_of, line_over, cell_over}
 use Rattle.lk_plain.proofs.MeasureLaws.{Placed, filter-map, index_between, AllByRecursion-filter}
 use Rattle.lk_plain.proofs.AnswerLaws.{same_tuple, columns_are, lines_are}
 use Rattle.lk_types.specs.declared.explore.Measure.{Measure}
 use Rattle.lk_types.specs.declared.explore.Op.{Op}
-use Rattle.lk_types.specs.declared.bound.Bound.{Bound}
-use Rattle.lk_types.specs.declared.model.Pick.{Pick}
 use Rattle.lk_types.specs.declared.answer.KeyValue.{KeyValue}
 use Rattle.lk_types.specs.declared.answer.GivenRow.{GivenRow}
 use Rattle.lk_types.specs.declared.answer.GroupRow.{GroupRow}
 use Rattle.lk_types.specs.declared.answer.Answer.{Answer}
 use Rattle.lk_types.specs.declared.answer.Answer.TheVariants.{Table}
 use Rattle.lk_types.specs.Joins.{has_number}
-use Rattle.lk_types.specs.Rows.{dim_value, tuple_of, visible_rows, passing_rows}
+use Rattle.lk_types.specs.Rows.{tuple_of}
 use Rattle.lk_types.specs.Measures.{Entry, entry_at, no_entry, entries_of, groups_of, group_row, group_rows, measure_of, conflict_keys, conflicts_of}
-use Rattle.lk_types.specs.Answers.{measure_at, dims_of, picked_measures, parts_of_measure, or_parts, components_of, query_components, first_each, key_value, given_row, given_rows, ops_of, component_cell, cell_within, frac_of_cell, or_calculated, measure_cell, line_cells, line_of, lines_of, passes_having, line_cmp, cut, answer_unless, answer_over, answer_of}
-use Rattle.lk_answer.specs.Views.{explore_of, pick_of, bound_of, sources_of, op_of, answer_of_table} 
+use Rattle.lk_types.specs.Answers.{measure_at, picked_measures, parts_of_measure, or_parts, query_components, first_each, key_value, given_row, given_rows, ops_of, component_cell, cell_within, frac_of_cell, or_calculated, measure_cell, line_cells, line_of, lines_of, passes_having, line_cmp, cut, answer_unless, answer_over, answer_of}
+use Rattle.lk_answer.specs.Views.{explore_of, pick_of, bound_of, sources_of, op_of, answer_of_table}
 use Rattle.lk_answer.specs.Views as views
 use Rattle.lk_answer.proofs.ViewLaws.{joined, filter_all, all_pass, dims_are, measures_are, measure_is, dim_is, given, given_by}
 use Rattle.lk_answer.proofs.PlacedLaws.{entry_of, measure_over, no_conflict}

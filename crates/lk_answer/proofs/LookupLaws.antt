@@ -1,7 +1,7 @@
 -- A component is found among the components, each of which stands there once.
-use Rattle.std.proofs.Common.{arith, ◌≡◌, ◌+◌, ◌<◌, ℕ, zero, suc, Bool, true, false, cond, not, ◌||◌, List, [], ◌∷◌, ◌++◌, length, map, refl, sym, ap, ◌∙◌, Some, None, subst}
-use Rattle.std.specs.Prelude.{filter, flat_map, slice_index_or, nat_eq, nat_lt, ◌==◌, Option, option_map, unwrap_or}
-use Rattle.std.specs.List.{list_any, position, position_or_len}
+use Rattle.std.proofs.Common.{arith, ◌≡◌, ◌+◌, ◌<◌, ℕ, suc, true, false, cond, not, ◌||◌, List, [], ◌∷◌, length, map, refl, sym, ap, ◌∙◌, Some, None}
+use Rattle.std.specs.Prelude.{filter, slice_index_or, nat_eq, nat_lt, ◌==◌, unwrap_or}
+use Rattle.std.specs.List.{position, position_or_len}
 use Rattle.std.proofs.lemmas.Bool.{false≢true, eqb-true, lt-ltb}
 use Rattle.std.proofs.lemmas.Map.Views.{any-filter_same}
 use Rattle.lk_val.specs.declared.cell.Cell.{Cell}
@@ -20,17 +20,17 @@ find m [] h = absurd (false≢true h)
 find m (k ∷ ks) h =
     elim (nat_eq m k) as (λ b. nat_eq m k ≡ b → (b || has_number m ks) ≡ true → IsFound m (k ∷ ks)) [
       | true ↦ λ e h. record {
-          place = 0;
-          first = ap (λ b. cond (not b) (1 + position_or_len (nat_eq m) ks) 0) e;
-          within = omega arith;
-          there = λ W d. ap W (sym (eqb-true m k e));
-        }
+        place = 0;
+        first = ap (λ b. cond (not b) (1 + position_or_len (nat_eq m) ks) 0) e;
+        within = omega arith;
+        there = λ W d. ap W (sym (eqb-true m k e));
+      }
       | false ↦ λ e h. let rest = find m ks h in let less = rest.within in record {
-          place = suc rest.place;
-          first = ap (λ b. cond (not b) (1 + position_or_len (nat_eq m) ks) 0) e ∙ ap (λ n. 1 + n) rest.first ∙ omega arith;
-          within = omega (arith, less);
-          there = λ W d. rest.there W d;
-        }
+        place = suc rest.place;
+        first = ap (λ b. cond (not b) (1 + position_or_len (nat_eq m) ks) 0) e ∙ ap (λ n. 1 + n) rest.first ∙ omega arith;
+        within = omega (arith, less);
+        there = λ W d. rest.there W d;
+      }
     ] refl h
 
 -- where the number stands

@@ -1,11 +1,8 @@
 -- What a query over one view reads, as an explore of joined views: all rows pass, and each field and measure is that of the view.
-use Rattle.std.proofs.Common.{◌≡◌, ◌+◌, ◌<◌, ℕ, zero, suc, Bool, true, false, cond, List, [], ◌∷◌, ◌++◌, length, map, refl, sym, ap, ◌∙◌, Some, None, Option, arith}
-use Rattle.std.specs.Prelude.{filter, slice_index_or, pos}
-use Rattle.std.specs.List.{enumerate_from}
+use Rattle.std.proofs.Common.{◌≡◌, ◌<◌, ℕ, zero, suc, Bool, true, cond, List, [], ◌∷◌, length, map, refl, ap, ◌∙◌, Some, None, Option, arith}
+use Rattle.std.specs.Prelude.{filter, slice_index_or}
 use Rattle.lk_val.specs.declared.value.Value.{Value}
-use Rattle.lk_val.specs.declared.value.Value.TheVariants as value
 use Rattle.lk_plain.specs.declared.explore.Explore.{Explore as View}
-use Rattle.lk_plain.specs.declared.explore.Field.{Field as ViewField}
 use Rattle.lk_plain.specs.declared.explore.Measure.{Measure as ViewMeasure}
 use Rattle.lk_plain.specs.declared.explore.Op.{Op as ViewOp}
 use Rattle.lk_plain.specs.declared.explore.Op.TheVariants as view_op
@@ -14,7 +11,6 @@ use Rattle.lk_plain.specs.declared.explore.Pick.TheVariants as view_pick
 use Rattle.lk_plain.specs.declared.explore.Bound.{Bound as ViewBound}
 use Rattle.lk_plain.specs.Answers as view
 use Rattle.lk_plain.specs.Rows as view_rows
-use Rattle.lk_types.specs.Joins.{joined_rows}
 use Rattle.lk_types.specs.Rows.{no_field, field_at, dim_value, shaped, visible_rows, passing_rows}
 use Rattle.lk_types.specs.Expressions.{value_of}
 use Rattle.lk_types.specs.declared.explore.Field.{Field}

@@ -72,7 +72,13 @@ fn add_measure(
         return Ok(());
     }
     let pairs = pairs_of(alloc, op, entries)?;
-    add_keys(alloc, conflicts, measure, pairs.as_slice(), pairs.as_slice())
+    add_keys(
+        alloc,
+        conflicts,
+        measure,
+        pairs.as_slice(),
+        pairs.as_slice(),
+    )
 }
 
 // The keys of those pairs for which another of all pairs has the key with another value.
@@ -97,9 +103,7 @@ fn add_keys(
 fn has_other(pairs: &[Pair], pair: &Pair) -> bool
     ensures { result ≡ has_other pairs.now pair.now }
 {
-    pairs
-        .iter()
-        .any(|other| is_same(&pair.key, &other.key) && !is_same(&pair.value, &other.value))
+    pairs.iter().any(|other| is_same(&pair.key, &other.key) && !is_same(&pair.value, &other.value))
 }
 
 fn is_same(a: &Value, b: &Value) -> bool

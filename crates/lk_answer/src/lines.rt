@@ -21,8 +21,9 @@ impl<'a> Compare<GroupRow> for BySorts<'a> {
     ghost order = { λ self. line_cmp self.sorts.now };
 
     fn compare(&self, a: &GroupRow, b: &GroupRow) -> Ordering {
-        by_sorts(self.sorts, a.cells.as_slice(), b.cells.as_slice())
-            .then(a.group.as_slice().cmp(b.group.as_slice()))
+        by_sorts(self.sorts, a.cells.as_slice(), b.cells.as_slice()).then(
+            a.group.as_slice().cmp(b.group.as_slice()),
+        )
     }
 }
 

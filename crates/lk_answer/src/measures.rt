@@ -13,11 +13,7 @@ use std::cmp::Ordering;
 
 /// A measure over what the rows of a group give: counts, sums and averages over the pairs of key and value, the
 /// others over the rows. Places are below 2^63. (Looker, LookML reference: measure types)
-pub fn measure_of(
-    alloc: Global,
-    op: Op,
-    entries: &[(u64, KeyValue)],
-) -> Result<Cell, NoMemory>
+pub fn measure_of(alloc: Global, op: Op, entries: &[(u64, KeyValue)]) -> Result<Cell, NoMemory>
     requires { All IsPlaced entries.now }
     ensures { IfOk result (λ cell. cell ≡ measure_of op entries.now) }
 {
@@ -91,10 +87,7 @@ fn values_of(alloc: Global, entries: &[(u64, KeyValue)]) -> Result<Items<Value>,
     Ok(values)
 }
 
-fn distinct_values(
-    alloc: Global,
-    entries: &[(u64, KeyValue)],
-) -> Result<Items<Value>, NoMemory>
+fn distinct_values(alloc: Global, entries: &[(u64, KeyValue)]) -> Result<Items<Value>, NoMemory>
     ensures { IfOk result (λ values. values ≡ distinct_values (values_of_entries entries.now)) }
 {
     let known = known_values(alloc, entries)?;

@@ -75,11 +75,7 @@ fn copy_key(alloc: Global, key: &Option<Value>) -> Result<Option<Value>, NoMemor
 }
 
 /// The set of the pairs of key and value that entries give, without null keys. Places are below 2^63.
-pub fn pairs_of(
-    alloc: Global,
-    op: Op,
-    entries: &[(u64, KeyValue)],
-) -> Result<Items<Pair>, NoMemory>
+pub fn pairs_of(alloc: Global, op: Op, entries: &[(u64, KeyValue)]) -> Result<Items<Pair>, NoMemory>
     requires { All IsPlaced entries.now }
     ensures { IfOk result (λ pairs. pairs ≡ pairs_of op entries.now) }
 {
@@ -88,11 +84,7 @@ pub fn pairs_of(
 }
 
 // The pairs with a key, in the order of the entries.
-fn given_pairs(
-    alloc: Global,
-    op: Op,
-    entries: &[(u64, KeyValue)],
-) -> Result<Items<Pair>, NoMemory>
+fn given_pairs(alloc: Global, op: Op, entries: &[(u64, KeyValue)]) -> Result<Items<Pair>, NoMemory>
     requires { All IsPlaced entries.now }
     ensures { IfOk result (λ pairs. pairs ≡ filter has_key (map (pair_of op) entries.now)) }
 {

@@ -107,7 +107,10 @@ fn a_key_counts_once_however_often_its_row_is_joined(rt: HostRuntime) -> Result<
     ];
     for (op, printed) in cases {
         let groups = group_rows(alloc, 0, &[op], rows.as_slice()).or(Err(FULL))?;
-        assert_eq!(rt; shown(alloc, groups.as_slice()).or(Err(FULL))?.as_str(), printed);
+        assert_eq!(rt;
+            shown(alloc, groups.as_slice()).or(Err(FULL))?.as_str(),
+            printed
+        );
     }
     Ok(())
 }
@@ -117,12 +120,21 @@ fn null_is_a_group_of_its_own(rt: HostRuntime) -> Result<(), Fail> {
     let alloc = rt.alloc();
     let rows = orders(alloc, true).or(Err(FULL))?;
     let groups = group_rows(alloc, 1, &[Op::Sum], rows.as_slice()).or(Err(FULL))?;
-    assert_eq!(rt; shown(alloc, groups.as_slice()).or(Err(FULL))?.as_str(), "30.5|;100|;50|;100|;");
-    assert_eq!(rt; groups_of(alloc, 1, rows.as_slice()).or(Err(FULL))?.len(), 4);
+    assert_eq!(rt;
+        shown(alloc, groups.as_slice()).or(Err(FULL))?.as_str(),
+        "30.5|;100|;50|;100|;"
+    );
+    assert_eq!(rt;
+        groups_of(alloc, 1, rows.as_slice()).or(Err(FULL))?.len(),
+        4
+    );
     let none = group_rows(alloc, 1, &[Op::Sum], &[]).or(Err(FULL))?;
     assert_eq!(rt; none.len(), 0);
     let one = group_rows(alloc, 0, &[Op::Count, Op::Sum, Op::Average], &[]).or(Err(FULL))?;
-    assert_eq!(rt; shown(alloc, one.as_slice()).or(Err(FULL))?.as_str(), "0|0||;");
+    assert_eq!(rt;
+        shown(alloc, one.as_slice()).or(Err(FULL))?.as_str(),
+        "0|0||;"
+    );
     Ok(())
 }
 

@@ -1,5 +1,5 @@
 -- Which parts a query reads, and the rows of derived tables.
-use Rattle.std.specs.Prelude.{ℕ, zero, suc, ◌*◌, not, if◌then◌else◌, pos, ◌*ℤ◌, List, [], ◌∷◌, ◌++◌, map, filter, flat_map, length, slice_index_or, None, false}
+use Rattle.std.specs.Prelude.{ℕ, zero, suc, ◌*◌, not, if◌then◌else◌, pos, List, [], ◌∷◌, ◌++◌, map, filter, flat_map, length, slice_index_or, None, false}
 use Rattle.lk_val.specs.Rounding.{number_of, num_of_fraction}
 use Rattle.lk_val.specs.declared.value.Value.{Value}
 use Rattle.lk_val.specs.declared.cell.Cell.{Cell}

@@ -1,5 +1,5 @@
 -- How the cells of an answer print, by the shape of their column.
-use Rattle.std.specs.Prelude.{ℕ, ◌==◌, length, slice_index_or, Option, Some, None, ◌/◌, ◌%◌, ◌+◌, ◌-◌, Bool, true, false, if◌then◌else◌, ℤ, pos, ◌*ℤ◌, ◌-ℤ◌, int_lt, List, [], ◌∷◌, ◌++◌, codes, decimal}
+use Rattle.std.specs.Prelude.{ℕ, ◌==◌, length, slice_index_or, Option, Some, None, ◌/◌, ◌%◌, ◌+◌, ◌-◌, Bool, true, false, if◌then◌else◌, ℤ, pos, ◌*ℤ◌, ◌-ℤ◌, int_lt, List, [], ◌++◌, codes, decimal}
 use Rattle.std.specs.Fmt.{signed_decimal}
 use Rattle.std.specs.List.{position}
 use Rattle.std.specs.Ordering.{int_eq}

@@ -2,7 +2,6 @@
 use Rattle.std.specs.Prelude.{ℕ, List, [], ◌∷◌, Option, Some, None, codes}
 use Rattle.lk_val.specs.declared.value.Value.{Value}
 use Rattle.lk_types.specs.Formula.{Column}
-use Rattle.lk_types.specs.Joins.{Rows}
 use Rattle.lk_types.specs.declared.rows.Sources.{Sources}
 use Rattle.lk_types.specs.Derived.{sources_of}
 use Rattle.lk_types.specs.Shop.{users, orders, items, orders_explore, keyed_part, equals, plain, measure, units}

@@ -1,5 +1,5 @@
 -- Wrong definitions, to be told from the right ones on the shop.
-use Rattle.std.specs.Prelude.{ℕ, ℤ, Bool, true, not, List, [], ◌∷◌, map, filter}
+use Rattle.std.specs.Prelude.{ℕ, ℤ, Bool, true, not, List, [], map, filter}
 use Rattle.std.specs.List.{list_any}
 use Rattle.lk_val.specs.Sets.{set_of}
 use Rattle.lk_val.specs.Values.{tuple_cmp, is_null}

@@ -37,7 +37,7 @@ pub fn shop_queries_are_answered()
     ensures exact_average { answer_of orders_explore shop (query (Mea 2 ∷ []) (0 ∷ [])) ≡ whole ((fraction_cell 361 6 ∷ []) ∷ []) }
     ensures by_price { answer_of orders_explore shop (query (Dim 10 ∷ Mea 1 ∷ []) (0 ∷ 1 ∷ []))
         ≡ whole ((dim value.Null ∷ sum 305000 ∷ []) ∷ (dim (units 40) ∷ sum 1000000 ∷ [])
-            ∷ (dim (units 50) ∷ sum 500000 ∷ []) ∷ (dim (units 60) ∷ sum 1000000 ∷ []) ∷ []) }
+        ∷ (dim (units 50) ∷ sum 500000 ∷ []) ∷ (dim (units 60) ∷ sum 1000000 ∷ []) ∷ []) }
     ensures count_of_nothing { answer_of orders_explore empty_shop (query (Mea 0 ∷ []) (0 ∷ []))
         ≡ whole ((cell.Count 0 ∷ []) ∷ []) }
     ensures groups_of_nothing { answer_of orders_explore empty_shop (query (Dim 2 ∷ Mea 0 ∷ []) (0 ∷ [])) ≡ whole [] }
@@ -88,7 +88,7 @@ pub fn tables_are_joined()
         ≡ both (Some (one 1)) None ∷ both (Some (one 2)) (Some (one 2)) ∷ both None (Some (one 3)) ∷ [] }
     ensures cross { joined_rows (joined_as Cross) two_tables (0 ∷ [])
         ≡ both (Some (one 1)) (Some (one 2)) ∷ both (Some (one 1)) (Some (one 3))
-            ∷ both (Some (one 2)) (Some (one 2)) ∷ both (Some (one 2)) (Some (one 3)) ∷ [] }
+        ∷ both (Some (one 2)) (Some (one 2)) ∷ both (Some (one 2)) (Some (one 3)) ∷ [] }
     ensures needed_of_totals { joins_for orders_explore (7 ∷ []) (1 ∷ 4 ∷ []) ≡ 0 ∷ 1 ∷ [] }
     ensures needed_of_months { joins_for orders_explore (5 ∷ []) (1 ∷ []) ≡ [] }
     ensures fanned_orders { is_fanned orders_explore (0 ∷ 1 ∷ []) 0 ≡ true }
@@ -150,7 +150,7 @@ pub fn filters_pass_values()
     ensures empty_or_null { map (passes (only (test.Empty ∷ []) [])) (value.Null ∷ word [] ∷ word (codes "x") ∷ [])
         ≡ true ∷ true ∷ false ∷ [] }
     ensures relative_dates { (placed (pos 1709380800) (only (test.This period.Week ∷ test.Last period.Quarter ∷ test.Recent 3 period.Day
-            ∷ test.Recent 2 period.Month ∷ test.Ago 1 period.Month ∷ []) [])).include
+        ∷ test.Recent 2 period.Month ∷ test.Ago 1 period.Month ∷ []) [])).include
         ≡ days 19779 19786 ∷ days 19631 19723 ∷ days 19782 19785 ∷ days 19754 19814 ∷ days 19754 19783 ∷ [] }
 {}
 

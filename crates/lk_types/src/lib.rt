@@ -15,12 +15,13 @@ mod printing;
 mod rows;
 mod schema;
 
-pub use answer::{
-    Answer, GivenRow, GroupRow, KeyValue, Pair, Partial, Reply, Route, RouteFrom,
-};
+pub use answer::{Answer, GivenRow, GroupRow, KeyValue, Pair, Partial, Reply, Route, RouteFrom};
 pub use bound::{Bound, Plan, Query, Sort};
 pub use examples::{
-    shop_queries_are_answered, shop_filters_and_sorts_apply, conflicts_are_of_visible_rows, tables_are_joined, derived_tables_are_answers, expressions_are_computed, timeframes_are_computed, filters_pass_values, rollups_fit_and_regroup, wrong_definitions_differ,
+    conflicts_are_of_visible_rows, derived_tables_are_answers, expressions_are_computed,
+    filters_pass_values, rollups_fit_and_regroup, shop_filters_and_sorts_apply,
+    shop_queries_are_answered, tables_are_joined, timeframes_are_computed,
+    wrong_definitions_differ,
 };
 pub use explore::{
     Explore, Field, Join, JoinKind, Measure, Op, Origin, Part, Relation, Rollup, Shape,

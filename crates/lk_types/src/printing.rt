@@ -3,11 +3,11 @@ ghost use Rattle.std.specs.List.{position};
 ghost use Rattle.lk_types.specs.Printing.{cell_text, value_text, shaped_text, frame_text, tier_text, tier_below, is_bound_above, bound_at, fraction_text, date_text, month_text, quarter_text, year_text, time_text, two_digits, four_digits};
 ghost use Rattle.lk_val.specs.declared.value.Value.TheVariants as value;
 
-use crate::explore::Shape;
-use crate::schema::Frame;
 use crate::calendar::{
     day_of_moment, day_of_month, from_year_one, month_of, second_of_moment, year_of,
 };
+use crate::explore::Shape;
+use crate::schema::Frame;
 use lk_val::{Cell, Frac, NoMemory, Num, Text, Value, print_count};
 use std::alloc::Global;
 
@@ -58,9 +58,7 @@ fn print_month(alloc: Global, day: u64) -> Result<Text, NoMemory>
     let year = year_of(day);
     let year_text = print_four(alloc, year)?;
     let month_text = print_two(alloc, month_of(year, day))?;
-    Ok(Text::from_string(
-        format!(in alloc; "{year_text}-{month_text}")?,
-    ))
+    Ok(Text::from_string(format!(in alloc; "{year_text}-{month_text}")?))
 }
 
 // The quarter of a day, from 0001-01-01, as `YYYY-Qn`.
@@ -72,9 +70,7 @@ fn print_quarter(alloc: Global, day: u64) -> Result<Text, NoMemory>
     let year = year_of(day);
     let year_text = print_four(alloc, year)?;
     let quarter = (month_of(year, day) + 2) / 3;
-    Ok(Text::from_string(
-        format!(in alloc; "{year_text}-Q{quarter}")?,
-    ))
+    Ok(Text::from_string(format!(in alloc; "{year_text}-Q{quarter}")?))
 }
 
 // The year of a day, from 0001-01-01, as `YYYY`.

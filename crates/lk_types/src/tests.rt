@@ -28,7 +28,12 @@ fn cells_print_as_their_kind(rt: HostRuntime) -> Result<(), Fail> {
         (Cell::Frac(Frac::new(-4, 2)), "-2"),
     ];
     for (cell, printed) in &cases {
-        assert_eq!(rt; print_cell(alloc, cell, &Shape::Plain).or(Err(FULL))?.as_str(), *printed);
+        assert_eq!(rt;
+            print_cell(alloc, cell, &Shape::Plain)
+                .or(Err(FULL))?
+                .as_str(),
+            *printed
+        );
     }
     Ok(())
 }
@@ -55,7 +60,10 @@ fn a_tier_prints_as_its_range(rt: HostRuntime) -> Result<(), Fail> {
     ];
     for (value, printed) in cases {
         let cell = Cell::Value(value);
-        assert_eq!(rt; print_cell(alloc, &cell, &shape).or(Err(FULL))?.as_str(), printed);
+        assert_eq!(rt;
+            print_cell(alloc, &cell, &shape).or(Err(FULL))?.as_str(),
+            printed
+        );
     }
     Ok(())
 }

@@ -1,4 +1,4 @@
-use Rattle.std.proofs.Common.{◌≡◌, ◌∙◌, ap, sym}
+use Rattle.std.proofs.Common.{◌∙◌, ap, sym}
 use Rattle.lk_answer.proofs.SetLemmas.{with_items, with_items-none, with_items-last}
 use Rattle.lk_answer.proofs.sets.set_of.Goals as goal
 

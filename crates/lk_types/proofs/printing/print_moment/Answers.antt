@@ -1,4 +1,4 @@
-use Rattle.std.proofs.Common.{◌≡◌, ◌∙◌, ap, ◌++◌, ◌∷◌, [], arith, append_assoc, sym}
+use Rattle.std.proofs.Common.{◌≡◌, ◌∙◌, ◌∷◌, [], arith, append_assoc, sym}
 use Rattle.std.proofs.lemmas.Int.{to_z-of_z, ints}
 use Rattle.lk_types.specs.Calendar.{day_of_moment, from_year_one, second_of_moment}
 use Rattle.lk_types.specs.Printing.{date_text, time_text}
