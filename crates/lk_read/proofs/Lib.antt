@@ -1,0 +1,12 @@
+pub mod Steps
+pub mod Rests
+pub mod Cuts
+pub mod Broken
+pub mod Alive
+pub mod Found
+pub mod Complete
+pub mod Stops
+pub mod Refused
+pub mod LinesLaws
+pub mod OutlineLaws
+pub mod Answered

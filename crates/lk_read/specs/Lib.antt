@@ -1,0 +1,14 @@
+pub mod Lines
+pub mod Outline
+pub mod OutlineCode
+pub mod TreeOutline
+pub mod TreeFalls
+pub mod Bytes
+pub mod Utf8
+pub mod Grammar
+pub mod Built
+pub mod FrameLines
+pub mod Reading
+pub mod Canonical
+pub mod BreaksOff
+pub mod Faults

@@ -1,0 +1,21 @@
+//! LookML text: each file is read to its one tree, or refused at the first place that cannot stand.
+#![tactic(auto)]
+
+mod builder;
+mod file;
+mod letters;
+mod phase;
+mod print;
+mod read_fault;
+mod reader;
+mod tree;
+mod trim;
+mod utf8;
+
+pub use file::read_file;
+pub use print::print_tree;
+pub use read_fault::ReadFault;
+pub use tree::{Entry, Item, Node, Tree};
+
+#[cfg(test)]
+mod tests;

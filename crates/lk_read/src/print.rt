@@ -1,0 +1,157 @@
+ghost use Rattle.std.specs.Prelude.{◌≡◌, ◌++◌, ◌∷◌, [], IfOk, Option, Some, None};
+ghost use Rattle.lk_read.specs.Canonical.{canonical, text_at, characters, escaped, string_text, entry_text, further_entries, entries_text, plain_text, title_text, start_text, block_text};
+ghost use Rattle.lk_read.specs.Outline.{no_more, list};
+ghost use Rattle.lk_read.specs.TreeOutline.{item_before, outline_of};
+
+use crate::tree::{Entry, Item, Node, Tree};
+use lk_val::{Bytes, NoMemory, Text};
+use std::alloc::Global;
+
+/// The canonical text of a tree: one parameter a line, two spaces for each block around it. (lookd)
+pub fn print_tree(alloc: Global, tree: &Tree) -> Result<Bytes, NoMemory>
+    ensures { IfOk result (λ text. text ≡ canonical tree.now) }
+{
+    print_items(alloc, Bytes::new(alloc), tree, &[])
+}
+
+/// The text with the lines of a tree, each behind the margin.
+#[cycle(print)]
+#[tactic(auto, using(crate::proofs::OutlineLaws::item_text))]
+fn print_items(alloc: Global, text: Bytes, tree: &Tree, margin: &[u8]) -> Result<Bytes, NoMemory>
+    ensures { IfOk result (λ made. made ≡ text ++ text_at margin.now tree.now) }
+{
+    let mut text = text;
+    for item in tree.items() {
+        text = print_item(alloc, text, item, margin)?;
+    }
+    Ok(text)
+}
+
+#[cycle(print)]
+fn print_item(alloc: Global, text: Bytes, item: &Item, margin: &[u8]) -> Result<Bytes, NoMemory>
+    ensures { IfOk result (λ made. made
+        ≡ text ++ text_at margin.now (item_before item.now.name item.now.place item.now.value no_more)) }
+{
+    let text = with(text, margin)?;
+    let text = with(text, item.name.as_bytes())?;
+    let text = with(text, b": ")?;
+    match &item.value {
+        Node::Word(word) => end_line(with(text, word.as_bytes())?),
+        Node::Quoted(string) => end_line(print_string(text, string.as_bytes())?),
+        Node::List(entries) => end_line(print_list(text, entries.as_slice())?),
+        Node::Code(code) => end_line(with(with(text, code.as_bytes())?, b" ;;")?),
+        Node::Block(title, inner) => {
+            let text = print_title(text, title)?;
+            print_block(alloc, text, inner, margin)
+        }
+    }
+}
+
+#[cycle(print)]
+fn print_block(alloc: Global, text: Bytes, inner: &Tree, margin: &[u8]) -> Result<Bytes, NoMemory>
+    ensures { IfOk result (λ made. made
+        ≡ text ++ block_text margin.now inner.now (text_at (margin.now ++ 32 ∷ 32 ∷ []) inner.now)) }
+{
+    if inner.is_empty() {
+        return end_line(with(text, b"{ }")?);
+    }
+    let text = with(text, b"{\n")?;
+    let deeper = with(Bytes::from_slice(alloc, margin)?, b"  ")?;
+    let text = print_items(alloc, text, inner, deeper.as_slice())?;
+    let text = with(text, margin)?;
+    with(text, b"}\n")
+}
+
+/// A block's name and a space, if it has a name.
+fn print_title(text: Bytes, title: &Option<Text>) -> Result<Bytes, NoMemory>
+    ensures { IfOk result (λ made. made ≡ text ++ title_text title.now) }
+{
+    match title {
+        None => Ok(text),
+        Some(title) => with(with(text, title.as_bytes())?, b" "),
+    }
+}
+
+fn print_list(text: Bytes, entries: &[Entry]) -> Result<Bytes, NoMemory>
+    ensures { IfOk result (λ made. made ≡ text ++ 91 ∷ (entries_text entries.now ++ 93 ∷ [])) }
+{
+    let text = with(text, b"[")?;
+    let text = print_entries(text, entries)?;
+    with(text, b"]")
+}
+
+fn print_entries(text: Bytes, entries: &[Entry]) -> Result<Bytes, NoMemory>
+    ensures { IfOk result (λ made. made ≡ text ++ entries_text entries.now) }
+{
+    match entries.split_first() {
+        None => Ok(text),
+        Some((first, rest)) => print_further(print_entry(text, first)?, rest),
+    }
+}
+
+/// The entries behind the first, each with a comma before it.
+fn print_further(text: Bytes, entries: &[Entry]) -> Result<Bytes, NoMemory>
+    ensures { IfOk result (λ made. made ≡ text ++ further_entries entries.now) }
+{
+    let mut text = text;
+    for entry in entries {
+        text = print_entry(with(text, b", ")?, entry)?;
+    }
+    Ok(text)
+}
+
+fn print_entry(text: Bytes, entry: &Entry) -> Result<Bytes, NoMemory>
+    ensures { IfOk result (λ made. made ≡ text ++ entry_text entry.now) }
+{
+    match entry {
+        Entry::Word(word) => with(text, word.as_bytes()),
+        Entry::Quoted(string) => print_string(text, string.as_bytes()),
+        Entry::Pair(key, string) => {
+            let text = with(text, key.as_bytes())?;
+            print_string(with(text, b": ")?, string.as_bytes())
+        }
+    }
+}
+
+fn print_string(text: Bytes, string: &[u8]) -> Result<Bytes, NoMemory>
+    ensures { IfOk result (λ made. made ≡ text ++ string_text string.now) }
+{
+    let text = with(text, b"\"")?;
+    let text = print_characters(text, string)?;
+    with(text, b"\"")
+}
+
+fn print_characters(text: Bytes, string: &[u8]) -> Result<Bytes, NoMemory>
+    ensures { IfOk result (λ made. made ≡ text ++ characters string.now) }
+{
+    let mut text = text;
+    for byte in string {
+        text = print_character(text, *byte)?;
+    }
+    Ok(text)
+}
+
+/// A character of a string, behind a backslash where it needs one.
+fn print_character(text: Bytes, byte: u8) -> Result<Bytes, NoMemory>
+    ensures { IfOk result (λ made. made ≡ text ++ escaped byte) }
+{
+    if byte == b'"' || byte == b'\\' {
+        with(text, &[b'\\', byte])
+    } else {
+        with(text, &[byte])
+    }
+}
+
+fn end_line(text: Bytes) -> Result<Bytes, NoMemory>
+    ensures { IfOk result (λ made. made ≡ text ++ 10 ∷ []) }
+{
+    with(text, b"\n")
+}
+
+fn with(text: Bytes, more: &[u8]) -> Result<Bytes, NoMemory>
+    ensures { IfOk result (λ made. made ≡ text ++ more.now) }
+{
+    let mut text = text;
+    text.append(more)?;
+    Ok(text)
+}

@@ -1,0 +1,29 @@
+use lk_val::NoMemory;
+
+/// Why a text was not read, with the place of the fault. The text is read from the front.
+#[derive(Clone, Copy, Debug, PartialEq, Eq)]
+pub enum ReadFault {
+    /// The text ends in a string, which begins here.
+    R1(u32),
+    /// The text ends in a block or a list, which begins here with its bracket.
+    R2(u32),
+    /// The text ends in code without `;;`; here is the name of its parameter.
+    R3(u32),
+    /// No text of the grammar has this byte here; or the text ends behind a name or a colon, and a value is missing.
+    R4(u32),
+    /// A block or a list begins here, and 32 are open.
+    R5(u32),
+    /// Want of memory.
+    NoMemory,
+}
+
+impl From<NoMemory> for ReadFault {
+    ghost use Rattle.std.specs.Prelude.{◌≡◌};
+    ghost use Rattle.lk_read.specs.declared.read_fault.ReadFault.TheVariants as fault;
+
+    ghost from_gives = { λ _ e. e ≡ fault.NoMemory };
+
+    fn from(_: NoMemory) -> ReadFault {
+        ReadFault::NoMemory
+    }
+}
