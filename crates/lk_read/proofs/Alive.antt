@@ -99,28 +99,28 @@ module _ (most depth : ℕ) where
   Finishes Rest = (rest : List ℕ) × (more : List Line) × ((size : ℕ) → Rest size rest more)
 
   -- the list ends
-  comma_alive : (param : Param) (items : OpenList) → Finishes (λ size rest more. AtComma most size depth param items rest more)
-  comma_alive param items = (93 ∷ closers depth, _, λ size. ([], closers depth, inl (refl, refl), emits most size depth param (list (items.entries ++ []))))
+  comma_alive : (param : Param) (open_list : OpenList) → Finishes (λ size rest more. AtComma most size depth param open_list rest more)
+  comma_alive param open_list = (93 ∷ closers depth, _, λ size. ([], closers depth, inl (refl, refl), emits most size depth param (list (open_list.entries ++ []))))
 
-  behind_alive : (param : Param) (where_ : Slot) (text : List ℕ) → (rest : List ℕ) × (more : List Line) × IsRun is_word_byte rest [] rest × ((size : ℕ) → AtGap most size depth (phase.Behind param where_ text) rest more)
+  behind_alive : (param : Param) (spot : Slot) (text : List ℕ) → (rest : List ℕ) × (more : List Line) × IsRun is_word_byte rest [] rest × ((size : ℕ) → AtGap most size depth (phase.Behind param spot text) rest more)
   unfolding comma_alive
   behind_alive param slot.Value text =
       (closers depth, _, run_ends depth, λ size. (closers depth, gap_none (closers depth), inl (close_lines depth, refl, closes most size depth)))
-  behind_alive param (slot.Entry items) text =
-      let c = comma_alive param (record { bracket = items.bracket; entries = items.entries ++ entry.Word text ∷ [] }) in
+  behind_alive param (slot.Entry open_list) text =
+      let c = comma_alive param (record { bracket = open_list.bracket; entries = open_list.entries ++ entry.Word text ∷ [] }) in
       (93 ∷ closers depth, c.1, inr (refl, refl, refl), λ size. (93 ∷ closers depth, gap_none (93 ∷ closers depth), inl (c.2 size)))
-  behind_alive param (slot.Pair items key) text =
-      let c = comma_alive param (record { bracket = items.bracket; entries = items.entries ++ entry.Pair key text ∷ [] }) in
+  behind_alive param (slot.Pair open_list key) text =
+      let c = comma_alive param (record { bracket = open_list.bracket; entries = open_list.entries ++ entry.Pair key text ∷ [] }) in
       (93 ∷ closers depth, c.1, inr (refl, refl, refl), λ size. (93 ∷ closers depth, gap_none (93 ∷ closers depth), c.2 size))
 
-  string_alive : (param : Param) (where_ : Slot) (text : List ℕ) → Finishes (λ size rest more. BehindString most size depth param where_ text rest more)
+  string_alive : (param : Param) (spot : Slot) (text : List ℕ) → Finishes (λ size rest more. BehindString most size depth param spot text rest more)
   unfolding comma_alive
   string_alive param slot.Value text = (closers depth, _, λ size. emits most size depth param (quoted text))
-  string_alive param (slot.Entry items) text =
-      let c = comma_alive param (record { bracket = items.bracket; entries = items.entries ++ entry.Quoted text ∷ [] }) in
+  string_alive param (slot.Entry open_list) text =
+      let c = comma_alive param (record { bracket = open_list.bracket; entries = open_list.entries ++ entry.Quoted text ∷ [] }) in
       (93 ∷ closers depth, c.1, λ size. (93 ∷ closers depth, gap_none (93 ∷ closers depth), c.2 size))
-  string_alive param (slot.Pair items key) text =
-      let c = comma_alive param (record { bracket = items.bracket; entries = items.entries ++ entry.Pair key text ∷ [] }) in
+  string_alive param (slot.Pair open_list key) text =
+      let c = comma_alive param (record { bracket = open_list.bracket; entries = open_list.entries ++ entry.Pair key text ∷ [] }) in
       (93 ∷ closers depth, c.1, λ size. (93 ∷ closers depth, gap_none (93 ∷ closers depth), c.2 size))
 
   colon_alive : (param : Param) (c : Bool) → is_code_name param.name ≡ c → (rest : List ℕ) × (more : List Line) × IsRun is_name_byte rest [] rest × ((size : ℕ) → AtGap most size depth (phase.Colon param) rest more)
@@ -153,7 +153,7 @@ module _ (most depth : ℕ) where
     ),
   )
 
-  start_alive : (param : Param) (where_ : Slot) → Finishes (λ size rest more. AtGap most size depth (phase.Start param where_) rest more)
+  start_alive : (param : Param) (spot : Slot) → Finishes (λ size rest more. AtGap most size depth (phase.Start param spot) rest more)
   unfolding comma_alive
   start_alive param slot.Value = (
     120 ∷ closers depth,
@@ -164,10 +164,10 @@ module _ (most depth : ℕ) where
       inl (word (120 ∷ []), closers depth, (refl, [], refl, run_ends depth), emits most size depth param (word (120 ∷ []))),
     ),
   )
-  start_alive param (slot.Entry items) =
-      (93 ∷ closers depth, _, λ size. (93 ∷ closers depth, inl refl, ([], closers depth, refl, emits most size depth param (list (items.entries ++ [])))))
-  start_alive param (slot.Pair items key) =
-      let c = comma_alive param (record { bracket = items.bracket; entries = items.entries ++ entry.Pair key (120 ∷ []) ∷ [] }) in (
+  start_alive param (slot.Entry open_list) =
+      (93 ∷ closers depth, _, λ size. (93 ∷ closers depth, inl refl, ([], closers depth, refl, emits most size depth param (list (open_list.entries ++ [])))))
+  start_alive param (slot.Pair open_list key) =
+      let c = comma_alive param (record { bracket = open_list.bracket; entries = open_list.entries ++ entry.Pair key (120 ∷ []) ∷ [] }) in (
         120 ∷ 93 ∷ closers depth,
         c.1,
         λ size. (
@@ -184,17 +184,17 @@ module _ (most depth : ℕ) where
       let c = colon_alive param (is_code_name (name ++ [])) refl in
       (c.0, c.1, λ size. ([], c.0, c.2, c.3 size))
   phase_alive (phase.Colon param) = let c = colon_alive param (is_code_name param.name) refl in (c.0, c.1, c.3)
-  phase_alive (phase.Start param where_) = start_alive param where_
-  phase_alive (phase.Word param where_ text) =
-      let c = behind_alive param where_ (text ++ []) in (c.0, c.1, λ size. ([], c.0, c.2, c.3 size))
-  phase_alive (phase.Behind param where_ text) = let c = behind_alive param where_ text in (c.0, c.1, c.3)
-  phase_alive (phase.Comma param items) =
-      let c = comma_alive param items in (c.0, c.1, λ size. (c.0, gap_none c.0, c.2 size))
-  phase_alive (phase.Quoted param where_ quote text utf8) =
-      let c = string_alive param where_ (text ++ tail utf8) in
+  phase_alive (phase.Start param spot) = start_alive param spot
+  phase_alive (phase.Word param spot text) =
+      let c = behind_alive param spot (text ++ []) in (c.0, c.1, λ size. ([], c.0, c.2, c.3 size))
+  phase_alive (phase.Behind param spot text) = let c = behind_alive param spot text in (c.0, c.1, c.3)
+  phase_alive (phase.Comma param open_list) =
+      let c = comma_alive param open_list in (c.0, c.1, λ size. (c.0, gap_none c.0, c.2 size))
+  phase_alive (phase.Quoted param spot quote text utf8) =
+      let c = string_alive param spot (text ++ tail utf8) in
       (tail utf8 ++ 34 ∷ c.0, c.1, λ size. (tail utf8, c.0, tail_quoted utf8 c.0, tail_completes utf8, c.2 size))
-  phase_alive (phase.Escape param where_ quote text) =
-      let c = string_alive param where_ (text ++ 92 ∷ 120 ∷ []) in
+  phase_alive (phase.Escape param spot quote text) =
+      let c = string_alive param spot (text ++ 92 ∷ 120 ∷ []) in
       (120 ∷ 34 ∷ c.0, c.1, λ size. (92 ∷ 120 ∷ [], c.0, ([], refl, inl (refl, refl, refl)), refl, c.2 size))
   phase_alive (phase.Code param raw utf8) = (
     tail utf8 ++ 59 ∷ 59 ∷ closers depth,

@@ -97,14 +97,14 @@ module _ (most size : ℕ) (why : ReadFault) (t : List ℕ) where
 
   -- ---- lists
 
-  comma_back : (built : Built) (param : Param) (items : OpenList) (place b : ℕ) → Back Rest (From built (phase.Comma param items) b) (comma_at built param items place b)
-  comma_back built param items place b =
-      by_test (Back Rest (From built (phase.Comma param items) b)) (b == 44) _ _ behind_comma
-      (λ _. by_test (Back Rest (From built (phase.Comma param items) b)) (b == 93) _ _
+  comma_back : (built : Built) (param : Param) (open_list : OpenList) (place b : ℕ) → Back Rest (From built (phase.Comma param open_list) b) (comma_at built param open_list place b)
+  comma_back built param open_list place b =
+      by_test (Back Rest (From built (phase.Comma param open_list) b)) (b == 44) _ _ behind_comma
+      (λ _. by_test (Back Rest (From built (phase.Comma param open_list) b)) (b == 93) _ _
       (λ h w. inl ([], t, inl (refl, headed b 93 t h), w))
       (λ _. tt))
     where
-      behind_comma : (b == 44) ≡ true → CutGap most size why built.open_braces (phase.Start param (slot.Entry items)) t → CutComma most size why built.open_braces items.bracket (b ∷ t)
+      behind_comma : (b == 44) ≡ true → CutGap most size why built.open_braces (phase.Start param (slot.Entry open_list)) t → CutComma most size why built.open_braces open_list.bracket (b ∷ t)
       behind_comma h (start, gap, inl (es, rest, are, after)) = inl (es, rest, inr (t, start, headed b 44 t h, gap, are), after)
       behind_comma h (start, gap, inr cut) = inr (inr (t, start, headed b 44 t h, gap, cut))
 
@@ -127,31 +127,31 @@ module _ (most size : ℕ) (why : ReadFault) (t : List ℕ) where
 
   -- ---- where a value or an entry begins
 
-  word_start : (braces : List ℕ) (b : ℕ) (where_ : Slot) (run rest start : List ℕ) → is_word_byte b ≡ true → IsRun is_word_byte t run rest → IsGap rest start → CutBehind most size why braces where_ (b ∷ run) start → CutStart most size why braces where_ (b ∷ t)
+  word_start : (braces : List ℕ) (b : ℕ) (spot : Slot) (run rest start : List ℕ) → is_word_byte b ≡ true → IsRun is_word_byte t run rest → IsGap rest start → CutBehind most size why braces spot (b ∷ run) start → CutStart most size why braces spot (b ∷ t)
   word_start braces b slot.Value run rest start h r gap (inl cut) = inl (word (b ∷ run), rest, (h, run, refl, r), (start, gap, cut))
   word_start braces b slot.Value run rest start h r gap (inr (behind, brace, few, titled, begins, at, after)) =
       inr (inl (Some (b ∷ run), behind, brace, few, (rest, (h, run, refl, r), titled, subst (IsGap rest) begins gap), at, after))
-  word_start braces b (slot.Entry items) run rest start h r gap (inl follows) =
-      entry_cut braces items.bracket b (entry.Word (b ∷ run)) rest start (h, run, refl, r) gap follows
-  word_start braces b (slot.Entry items) run rest start h r gap (inr (colon, first, keyed, begins, gap2, cut)) =
-      pair_cut braces items.bracket b (b ∷ run) rest colon first (h, run, refl, r) keyed (subst (IsGap rest) begins gap) gap2 cut
-  word_start braces b (slot.Pair items key) run rest start h r gap follows =
+  word_start braces b (slot.Entry open_list) run rest start h r gap (inl follows) =
+      entry_cut braces open_list.bracket b (entry.Word (b ∷ run)) rest start (h, run, refl, r) gap follows
+  word_start braces b (slot.Entry open_list) run rest start h r gap (inr (colon, first, keyed, begins, gap2, cut)) =
+      pair_cut braces open_list.bracket b (b ∷ run) rest colon first (h, run, refl, r) keyed (subst (IsGap rest) begins gap) gap2 cut
+  word_start braces b (slot.Pair open_list key) run rest start h r gap follows =
       inl (b ∷ run, rest, inl (h, run, refl, r), (start, gap, follows))
 
-  open_string : (braces : List ℕ) (b place : ℕ) (where_ : Slot) → place + length (b ∷ t) ≡ size → (b == 34) ≡ true → ((string rest : List ℕ) → IsQuoted t string rest → ⊥) → why ≡ fault.R1 place → CutStart most size why braces where_ (b ∷ t)
+  open_string : (braces : List ℕ) (b place : ℕ) (spot : Slot) → place + length (b ∷ t) ≡ size → (b == 34) ≡ true → ((string rest : List ℕ) → IsQuoted t string rest → ⊥) → why ≡ fault.R1 place → CutStart most size why braces spot (b ∷ t)
   open_string braces b place slot.Value at h unended f = inr (inr (inr (inl (t, place, headed b 34 t h, at, unended, f))))
-  open_string braces b place (slot.Entry items) at h unended f = inr ([], b ∷ t, refl, inr (inr (inl (t, place, headed b 34 t h, at, unended, f))))
-  open_string braces b place (slot.Pair items key) at h unended f = inr (inr (t, place, headed b 34 t h, at, unended, f))
+  open_string braces b place (slot.Entry open_list) at h unended f = inr ([], b ∷ t, refl, inr (inr (inl (t, place, headed b 34 t h, at, unended, f))))
+  open_string braces b place (slot.Pair open_list key) at h unended f = inr (inr (t, place, headed b 34 t h, at, unended, f))
 
-  string_start : (braces : List ℕ) (b : ℕ) (where_ : Slot) (string rest : List ℕ) → (b == 34) ≡ true → IsQuoted t string rest → completes utf.Whole string ≡ true → CutString most size why braces where_ rest → CutStart most size why braces where_ (b ∷ t)
+  string_start : (braces : List ℕ) (b : ℕ) (spot : Slot) (string rest : List ℕ) → (b == 34) ≡ true → IsQuoted t string rest → completes utf.Whole string ≡ true → CutString most size why braces spot rest → CutStart most size why braces spot (b ∷ t)
   string_start braces b slot.Value string rest h q u after = inl (quoted string, rest, (t, headed b 34 t h, q, u), after)
-  string_start braces b (slot.Entry items) string rest h q u (next, gap, follows) =
-      entry_cut braces items.bracket b (entry.Quoted string) rest next (t, headed b 34 t h, q, u) gap follows
-  string_start braces b (slot.Pair items key) string rest h q u follows = inl (string, rest, inr (t, headed b 34 t h, q, u), follows)
+  string_start braces b (slot.Entry open_list) string rest h q u (next, gap, follows) =
+      entry_cut braces open_list.bracket b (entry.Quoted string) rest next (t, headed b 34 t h, q, u) gap follows
+  string_start braces b (slot.Pair open_list key) string rest h q u follows = inl (string, rest, inr (t, headed b 34 t h, q, u), follows)
 
-  quote_back : (built : Built) (param : Param) (where_ : Slot) (place b : ℕ) → place + length (b ∷ t) ≡ size → (b == 34) ≡ true → CutRest most size why built.open_braces (phase.Quoted param where_ place [] utf.Whole) t → CutStart most size why built.open_braces where_ (b ∷ t)
-  quote_back built param where_ place b at h (inl (string, rest, is, done, follows)) = string_start built.open_braces b where_ string rest h is done follows
-  quote_back built param where_ place b at h (inr (unended, f)) = open_string built.open_braces b place where_ at h unended f
+  quote_back : (built : Built) (param : Param) (spot : Slot) (place b : ℕ) → place + length (b ∷ t) ≡ size → (b == 34) ≡ true → CutRest most size why built.open_braces (phase.Quoted param spot place [] utf.Whole) t → CutStart most size why built.open_braces spot (b ∷ t)
+  quote_back built param spot place b at h (inl (string, rest, is, done, follows)) = string_start built.open_braces b spot string rest h is done follows
+  quote_back built param spot place b at h (inr (unended, f)) = open_string built.open_braces b place spot at h unended f
 
   block_back : (built : Built) (param : Param) (title : Option (List ℕ)) (Goal : Type 0) (place : ℕ)
       → (length built.open_braces < most → After most size why (place ∷ built.open_braces) t → Goal)
@@ -165,7 +165,7 @@ module _ (most size : ℕ) (why : ReadFault) (t : List ℕ) where
   list_back built param place b at h few (start, gap, inl (es, rest, are, after)) = inl (list es, rest, (few, t, start, headed b 91 t h, gap, are), after)
   list_back built param place b at h few (start, gap, inr cut) = inr (inr (inr (inr (few, (t, start, place, headed b 91 t h, at, gap, cut)))))
 
-  bracket_back : (built : Built) (param : Param) (where_ : Slot) (place b : ℕ) → place + length (b ∷ t) ≡ size → Back Rest (From built (phase.Start param where_) b) (bracket_at most built param where_ place b)
+  bracket_back : (built : Built) (param : Param) (spot : Slot) (place b : ℕ) → place + length (b ∷ t) ≡ size → Back Rest (From built (phase.Start param spot) b) (bracket_at most built param spot place b)
   bracket_back built param slot.Value place b at =
       by_test (Back Rest (From built (phase.Start param slot.Value) b)) (b == 91) _ _
       (λ h. by_test (Back Rest (From built (phase.Start param slot.Value) b)) (nat_lt (length built.open_braces) most) _ _
@@ -175,23 +175,23 @@ module _ (most size : ℕ) (why : ReadFault) (t : List ℕ) where
       (λ h. block_back built param None (From built (phase.Start param slot.Value) b) place
       (λ few after. inr (inl (None, t, place, few, headed b 123 t h, at, after))))
       (λ _. tt))
-  bracket_back built param (slot.Entry items) place b at =
-      by_test (Back Rest (From built (phase.Start param (slot.Entry items)) b)) (b == 93) _ _
+  bracket_back built param (slot.Entry open_list) place b at =
+      by_test (Back Rest (From built (phase.Start param (slot.Entry open_list)) b)) (b == 93) _ _
       (λ h w. inl ([], t, headed b 93 t h, w))
       (λ _. tt)
-  bracket_back built param (slot.Pair items key) place b at = tt
+  bracket_back built param (slot.Pair open_list key) place b at = tt
 
-  start_back : (built : Built) (param : Param) (where_ : Slot) (place b : ℕ) → place + length (b ∷ t) ≡ size → Back Rest (From built (phase.Start param where_) b) (start_at most built param where_ place b)
-  start_back built param where_ place b at =
-      by_test (Back Rest (From built (phase.Start param where_) b)) (is_word_byte b) _ _
-      (λ h w. word_start built.open_braces b where_ w.0 w.1 w.3.0 h w.2 w.3.1 w.3.2)
-      (λ _. by_test (Back Rest (From built (phase.Start param where_) b)) (b == 34) _ _
-      (λ h w. quote_back built param where_ place b at h w)
-      (λ _. bracket_back built param where_ place b at))
+  start_back : (built : Built) (param : Param) (spot : Slot) (place b : ℕ) → place + length (b ∷ t) ≡ size → Back Rest (From built (phase.Start param spot) b) (start_at most built param spot place b)
+  start_back built param spot place b at =
+      by_test (Back Rest (From built (phase.Start param spot) b)) (is_word_byte b) _ _
+      (λ h w. word_start built.open_braces b spot w.0 w.1 w.3.0 h w.2 w.3.1 w.3.2)
+      (λ _. by_test (Back Rest (From built (phase.Start param spot) b)) (b == 34) _ _
+      (λ h w. quote_back built param spot place b at h w)
+      (λ _. bracket_back built param spot place b at))
 
   -- ---- behind a word
 
-  behind_back : (built : Built) (param : Param) (where_ : Slot) (text : List ℕ) (place b : ℕ) → place + length (b ∷ t) ≡ size → Back Rest (From built (phase.Behind param where_ text) b) (behind_at most built param where_ text place b)
+  behind_back : (built : Built) (param : Param) (spot : Slot) (text : List ℕ) (place b : ℕ) → place + length (b ∷ t) ≡ size → Back Rest (From built (phase.Behind param spot text) b) (behind_at most built param spot text place b)
   behind_back built param slot.Value text place b at =
       by_test (Back Rest (From built (phase.Behind param slot.Value text) b)) (b == 123 && is_title text) _ _
       (λ h. let parts = both (b == 123) (is_title text) h in
@@ -199,13 +199,13 @@ module _ (most size : ℕ) (why : ReadFault) (t : List ℕ) where
       (λ few after. inr (t, place, few, parts.1, headed b 123 t parts.0, at, after)))
       (λ _. back_by Rest (between_at (with_plain built param (word text)) place b) (λ w. inl w)
       (between_back (with_plain built param (word text)) place b at))
-  behind_back built param (slot.Entry items) text place b at =
-      by_test (Back Rest (From built (phase.Behind param (slot.Entry items) text) b)) (b == 58 && is_key text) _ _
+  behind_back built param (slot.Entry open_list) text place b at =
+      by_test (Back Rest (From built (phase.Behind param (slot.Entry open_list) text) b)) (b == 58 && is_key text) _ _
       (λ h w. let parts = both (b == 58) (is_key text) h in inr (t, w.0, parts.1, headed b 58 t parts.0, w.1, w.2))
-      (λ _. back_by Rest (comma_at built param (with_entry items (entry.Word text)) place b) (λ w. inl w)
-      (comma_back built param (with_entry items (entry.Word text)) place b))
-  behind_back built param (slot.Pair items key) text place b at =
-      comma_back built param (with_entry items (entry.Pair key text)) place b
+      (λ _. back_by Rest (comma_at built param (with_entry open_list (entry.Word text)) place b) (λ w. inl w)
+      (comma_back built param (with_entry open_list (entry.Word text)) place b))
+  behind_back built param (slot.Pair open_list key) text place b at =
+      comma_back built param (with_entry open_list (entry.Pair key text)) place b
 
   -- ---- white space and comments
 
@@ -245,30 +245,30 @@ module _ (most size : ℕ) (why : ReadFault) (t : List ℕ) where
       ))
       (gap_back built (phase.Colon (record { name = name; place = start })) place b (λ _ r. r) (colon_back built (record { name = name; place = start }) place b)))
 
-  word_back : (built : Built) (param : Param) (where_ : Slot) (text : List ℕ) (place b : ℕ) → place + length (b ∷ t) ≡ size → Back Rest (CutRest most size why built.open_braces (phase.Word param where_ text) (b ∷ t)) (word_at most built param where_ text place b)
-  word_back built param where_ text place b at =
-      by_test (Back Rest (CutRest most size why built.open_braces (phase.Word param where_ text) (b ∷ t))) (is_word_byte b) _ _
+  word_back : (built : Built) (param : Param) (spot : Slot) (text : List ℕ) (place b : ℕ) → place + length (b ∷ t) ≡ size → Back Rest (CutRest most size why built.open_braces (phase.Word param spot text) (b ∷ t)) (word_at most built param spot text place b)
+  word_back built param spot text place b at =
+      by_test (Back Rest (CutRest most size why built.open_braces (phase.Word param spot text) (b ∷ t))) (is_word_byte b) _ _
       (λ h w. (
         b ∷ w.0,
         w.1,
         inl (h, w.0, refl, w.2),
-        subst (λ x. CutGap most size why built.open_braces (phase.Behind param where_ x) w.1) (append_assoc text (b ∷ []) w.0) w.3,
+        subst (λ x. CutGap most size why built.open_braces (phase.Behind param spot x) w.1) (append_assoc text (b ∷ []) w.0) w.3,
       ))
-      (λ h. back_by Rest (gap_at most built (phase.Behind param where_ text) place b)
+      (λ h. back_by Rest (gap_at most built (phase.Behind param spot text) place b)
       (λ w. (
         [],
         b ∷ t,
         inr (h, refl, refl),
-        subst (λ x. CutGap most size why built.open_braces (phase.Behind param where_ x) (b ∷ t)) (sym (append-nil text)) w,
+        subst (λ x. CutGap most size why built.open_braces (phase.Behind param spot x) (b ∷ t)) (sym (append-nil text)) w,
       ))
-      (gap_back built (phase.Behind param where_ text) place b (λ _ r. r) (behind_back built param where_ text place b at)))
+      (gap_back built (phase.Behind param spot text) place b (λ _ r. r) (behind_back built param spot text place b at)))
 
   -- ---- strings
 
-  string_back : (built : Built) (param : Param) (where_ : Slot) (text : List ℕ) → Back Rest (CutString most size why built.open_braces where_ t) (string_ended built param where_ text)
+  string_back : (built : Built) (param : Param) (spot : Slot) (text : List ℕ) → Back Rest (CutString most size why built.open_braces spot t) (string_ended built param spot text)
   string_back built param slot.Value text = λ w. w
-  string_back built param (slot.Entry items) text = λ w. w
-  string_back built param (slot.Pair items key) text = λ w. w
+  string_back built param (slot.Entry open_list) text = λ w. w
+  string_back built param (slot.Pair open_list key) text = λ w. w
 
   unended_escape : (b : ℕ) → b ≡ 92 → ((string rest : List ℕ) → IsEscape t string rest → ⊥) → (string rest : List ℕ) → IsQuoted (b ∷ t) string rest → ⊥
   unended_escape b is unended string rest (inl (quote, none, same)) = omega arith
@@ -282,43 +282,43 @@ module _ (most size : ℕ) (why : ReadFault) (t : List ℕ) where
   unended_plain b plain_ unended string rest (inr (inr (_, more, f, w))) = unended more rest w
 
   abbrev FromQuoted : Built → Param → Slot → ℕ → List ℕ → Utf8 → ℕ → Type 0
-  FromQuoted built param where_ quote text utf8 b = CutRest most size why built.open_braces (phase.Quoted param where_ quote text utf8) (b ∷ t)
+  FromQuoted built param spot quote text utf8 b = CutRest most size why built.open_braces (phase.Quoted param spot quote text utf8) (b ∷ t)
 
-  escape_next : (built : Built) (param : Param) (where_ : Slot) (quote : ℕ) (text : List ℕ) (utf8 : Utf8) (b : ℕ) → is_whole utf8 ≡ true → (b == 92) ≡ true → CutRest most size why built.open_braces (phase.Escape param where_ quote text) t → FromQuoted built param where_ quote text utf8 b
-  escape_next built param where_ quote text utf8 b whole_ h (inl (string, rest, is, done, follows)) =
+  escape_next : (built : Built) (param : Param) (spot : Slot) (quote : ℕ) (text : List ℕ) (utf8 : Utf8) (b : ℕ) → is_whole utf8 ≡ true → (b == 92) ≡ true → CutRest most size why built.open_braces (phase.Escape param spot quote text) t → FromQuoted built param spot quote text utf8 b
+  escape_next built param spot quote text utf8 b whole_ h (inl (string, rest, is, done, follows)) =
       inl (string, rest, inr (inl (eqb-true b 92 h, is)), subst (λ u. completes u string ≡ true) (sym (whole_is utf8 whole_)) done, follows)
-  escape_next built param where_ quote text utf8 b whole_ h (inr (unended, f)) = inr (unended_escape b (eqb-true b 92 h) unended, f)
+  escape_next built param spot quote text utf8 b whole_ h (inr (unended, f)) = inr (unended_escape b (eqb-true b 92 h) unended, f)
 
-  plain_next : (built : Built) (param : Param) (where_ : Slot) (quote : ℕ) (text : List ℕ) (utf8 v : Utf8) (b : ℕ) → is_escaped b ≡ false → utf8_after utf8 b ≡ Some v → CutRest most size why built.open_braces (phase.Quoted param where_ quote (text ++ b ∷ []) v) t → FromQuoted built param where_ quote text utf8 b
-  plain_next built param where_ quote text utf8 v b plain_ e (inl (string, rest, is, done, follows)) =
+  plain_next : (built : Built) (param : Param) (spot : Slot) (quote : ℕ) (text : List ℕ) (utf8 v : Utf8) (b : ℕ) → is_escaped b ≡ false → utf8_after utf8 b ≡ Some v → CutRest most size why built.open_braces (phase.Quoted param spot quote (text ++ b ∷ []) v) t → FromQuoted built param spot quote text utf8 b
+  plain_next built param spot quote text utf8 v b plain_ e (inl (string, rest, is, done, follows)) =
       inl (b ∷ string, rest, inr (inr (plain_, string, refl, is)), completes_more utf8 v b string e done, follows)
-  plain_next built param where_ quote text utf8 v b plain_ e (inr (unended, f)) = inr (unended_plain b plain_ unended, f)
+  plain_next built param spot quote text utf8 v b plain_ e (inr (unended, f)) = inr (unended_plain b plain_ unended, f)
 
-  quoted_back : (built : Built) (param : Param) (where_ : Slot) (quote : ℕ) (text : List ℕ) (utf8 : Utf8) (place b : ℕ) → Back Rest (FromQuoted built param where_ quote text utf8 b) (quoted_at built param where_ quote text utf8 place b)
-  quoted_back built param where_ quote text utf8 place b =
-      by_test (Back Rest (FromQuoted built param where_ quote text utf8 b)) (is_whole utf8 && b == 34) _ _
+  quoted_back : (built : Built) (param : Param) (spot : Slot) (quote : ℕ) (text : List ℕ) (utf8 : Utf8) (place b : ℕ) → Back Rest (FromQuoted built param spot quote text utf8 b) (quoted_at built param spot quote text utf8 place b)
+  quoted_back built param spot quote text utf8 place b =
+      by_test (Back Rest (FromQuoted built param spot quote text utf8 b)) (is_whole utf8 && b == 34) _ _
       (λ h. let parts = both (is_whole utf8) (b == 34) h in
-      back_by Rest (string_ended built param where_ text)
+      back_by Rest (string_ended built param spot text)
       (λ w. inl ([], t, inl (eqb-true b 34 parts.1, refl, refl), parts.0, w))
-      (string_back built param where_ text))
-      (λ going. by_test (Back Rest (FromQuoted built param where_ quote text utf8 b)) (is_whole utf8 && b == 92) _ _
-      (λ h w. let parts = both (is_whole utf8) (b == 92) h in escape_next built param where_ quote text utf8 b parts.0 parts.1 w)
-      (λ plain_. by_next (Back Rest (FromQuoted built param where_ quote text utf8 b)) built (utf8_after utf8 b) _ place tt
-      (λ v e w. plain_next built param where_ quote text utf8 v b
+      (string_back built param spot text))
+      (λ going. by_test (Back Rest (FromQuoted built param spot quote text utf8 b)) (is_whole utf8 && b == 92) _ _
+      (λ h w. let parts = both (is_whole utf8) (b == 92) h in escape_next built param spot quote text utf8 b parts.0 parts.1 w)
+      (λ plain_. by_next (Back Rest (FromQuoted built param spot quote text utf8 b)) built (utf8_after utf8 b) _ place tt
+      (λ v e w. plain_next built param spot quote text utf8 v b
       (neither (b == 34) (b == 92) (apart utf8 v b 34 no_quote going e) (apart utf8 v b 92 no_backslash plain_ e)) e w)))
 
   abbrev FromEscape : Built → Param → Slot → ℕ → List ℕ → ℕ → Type 0
-  FromEscape built param where_ quote text b = CutRest most size why built.open_braces (phase.Escape param where_ quote text) (b ∷ t)
+  FromEscape built param spot quote text b = CutRest most size why built.open_braces (phase.Escape param spot quote text) (b ∷ t)
 
-  escaped_next : (built : Built) (param : Param) (where_ : Slot) (quote : ℕ) (text : List ℕ) (v : Utf8) (b : ℕ) → utf8_after utf.Whole b ≡ Some v → CutRest most size why built.open_braces (phase.Quoted param where_ quote (text ++ unescaped b) v) t → FromEscape built param where_ quote text b
-  escaped_next built param where_ quote text v b e (inl (string, rest, is, done, follows)) =
+  escaped_next : (built : Built) (param : Param) (spot : Slot) (quote : ℕ) (text : List ℕ) (v : Utf8) (b : ℕ) → utf8_after utf.Whole b ≡ Some v → CutRest most size why built.open_braces (phase.Quoted param spot quote (text ++ unescaped b) v) t → FromEscape built param spot quote text b
+  escaped_next built param spot quote text v b e (inl (string, rest, is, done, follows)) =
       inl (unescaped b ++ string, rest, (string, refl, is), completes_unescaped v b string e done, follows)
-  escaped_next built param where_ quote text v b e (inr (unended, f)) = inr (λ string rest w. unended w.0 rest w.2, f)
+  escaped_next built param spot quote text v b e (inr (unended, f)) = inr (λ string rest w. unended w.0 rest w.2, f)
 
-  escape_back : (built : Built) (param : Param) (where_ : Slot) (quote : ℕ) (text : List ℕ) (place b : ℕ) → Back Rest (FromEscape built param where_ quote text b) (escape_at built param where_ quote text place b)
-  escape_back built param where_ quote text place b =
-      by_next (Back Rest (FromEscape built param where_ quote text b)) built (utf8_after utf.Whole b) _ place tt
-      (λ v e w. escaped_next built param where_ quote text v b e w)
+  escape_back : (built : Built) (param : Param) (spot : Slot) (quote : ℕ) (text : List ℕ) (place b : ℕ) → Back Rest (FromEscape built param spot quote text b) (escape_at built param spot quote text place b)
+  escape_back built param spot quote text place b =
+      by_next (Back Rest (FromEscape built param spot quote text b)) built (utf8_after utf.Whole b) _ place tt
+      (λ v e w. escaped_next built param spot quote text v b e w)
 
   -- ---- code
 
@@ -373,16 +373,16 @@ module _ (most size : ℕ) (why : ReadFault) (t : List ℕ) where
 
   step_at_back : (built : Built) (now : Phase) (place b : ℕ) → place + length (b ∷ t) ≡ size → Back Rest (CutRest most size why built.open_braces now (b ∷ t)) (step_at most built now place b)
   step_at_back built (phase.Name name start) place b at = name_back built name start place b
-  step_at_back built (phase.Word param where_ text) place b at = word_back built param where_ text place b at
-  step_at_back built (phase.Quoted param where_ quote text utf8) place b at = quoted_back built param where_ quote text utf8 place b
-  step_at_back built (phase.Escape param where_ quote text) place b at = escape_back built param where_ quote text place b
+  step_at_back built (phase.Word param spot text) place b at = word_back built param spot text place b at
+  step_at_back built (phase.Quoted param spot quote text utf8) place b at = quoted_back built param spot quote text utf8 place b
+  step_at_back built (phase.Escape param spot quote text) place b at = escape_back built param spot quote text place b
   step_at_back built (phase.Code param raw utf8) place b at = code_back built param raw utf8 place b
   step_at_back built (phase.Semicolon param raw) place b at = semicolon_back built param raw place b
   step_at_back built phase.Between place b at = gap_back built phase.Between place b (λ _ r. r) (between_back built place b at)
   step_at_back built (phase.Colon param) place b at = gap_back built (phase.Colon param) place b (λ _ r. r) (colon_back built param place b)
-  step_at_back built (phase.Start param where_) place b at = gap_back built (phase.Start param where_) place b (λ _ r. r) (start_back built param where_ place b at)
-  step_at_back built (phase.Behind param where_ text) place b at = gap_back built (phase.Behind param where_ text) place b (λ _ r. r) (behind_back built param where_ text place b at)
-  step_at_back built (phase.Comma param items) place b at = gap_back built (phase.Comma param items) place b (λ _ r. r) (comma_back built param items place b)
+  step_at_back built (phase.Start param spot) place b at = gap_back built (phase.Start param spot) place b (λ _ r. r) (start_back built param spot place b at)
+  step_at_back built (phase.Behind param spot text) place b at = gap_back built (phase.Behind param spot text) place b (λ _ r. r) (behind_back built param spot text place b at)
+  step_at_back built (phase.Comma param open_list) place b at = gap_back built (phase.Comma param open_list) place b (λ _ r. r) (comma_back built param open_list place b)
 
   comment_back : (built : Built) (now : Phase) (b : ℕ) (c : Bool) → (b == 10) ≡ c → Rest (record { builder = built; phase = now; comment = not c }) → IsCut most size why (record { builder = built; phase = now; comment = true }) (b ∷ t)
   comment_back built now b true h w = inl (eqb-true b 10 h, w)
@@ -403,26 +403,26 @@ module _ (most size : ℕ) (why : ReadFault) where
   whole_end lines [] h = cc
   whole_end lines (brace ∷ outer) h = this_line most size why (brace ∷ outer) [] (inl (refl, brace, outer, refl, cc))
 
-  start_ended : (built : Built) (where_ : Slot) (place : ℕ) → place ≡ size → start_end built where_ place ≡ Err why → CutStart most size why built.open_braces where_ []
+  start_ended : (built : Built) (spot : Slot) (place : ℕ) → place ≡ size → start_end built spot place ≡ Err why → CutStart most size why built.open_braces spot []
   start_ended built slot.Value place at h = inr (inr (inl (refl, missing_end built.open_braces place at h)))
-  start_ended built (slot.Entry items) place at h = inr ([], [], refl, inl (refl, cc))
-  start_ended built (slot.Pair items key) place at h = inr (inl (refl, cc))
+  start_ended built (slot.Entry open_list) place at h = inr ([], [], refl, inl (refl, cc))
+  start_ended built (slot.Pair open_list key) place at h = inr (inl (refl, cc))
 
-  word_ended : (built : Built) (param : Param) (where_ : Slot) (text : List ℕ) → word_end built param where_ text ≡ Err why → (other : List ℕ) → CutBehind most size why built.open_braces where_ other []
+  word_ended : (built : Built) (param : Param) (spot : Slot) (text : List ℕ) → word_end built param spot text ≡ Err why → (other : List ℕ) → CutBehind most size why built.open_braces spot other []
   word_ended built param slot.Value text h other = inl (whole_end (built.lines ++ plain param.name param.place (word text) ∷ []) built.open_braces h)
-  word_ended built param (slot.Entry items) text h other = inl (inr (inl (refl, cc)))
-  word_ended built param (slot.Pair items key) text h other = inr (inl (refl, cc))
+  word_ended built param (slot.Entry open_list) text h other = inl (inr (inl (refl, cc)))
+  word_ended built param (slot.Pair open_list key) text h other = inr (inl (refl, cc))
 
   pub ended : (built : Built) (now : Phase) (place : ℕ) → place ≡ size → end_at built now place ≡ Err why → CutRest most size why built.open_braces now []
   ended built phase.Between place at h = ([], refl, whole_end built.lines built.open_braces h)
   ended built (phase.Name name start) place at h = ([], [], (refl, refl), ([], refl, inr (refl, missing_end built.open_braces place at h)))
   ended built (phase.Colon param) place at h = ([], refl, inr (refl, missing_end built.open_braces place at h))
-  ended built (phase.Start param where_) place at h = ([], refl, start_ended built where_ place at h)
-  ended built (phase.Word param where_ text) place at h = ([], [], (refl, refl), ([], refl, word_ended built param where_ text h (text ++ [])))
-  ended built (phase.Behind param where_ text) place at h = ([], refl, word_ended built param where_ text h text)
-  ended built (phase.Comma param items) place at h = ([], refl, inr (inl (refl, cc)))
-  ended built (phase.Quoted param where_ quote text utf8) place at h = inr (λ string rest w. w, cc)
-  ended built (phase.Escape param where_ quote text) place at h = inr (λ string rest w. w, cc)
+  ended built (phase.Start param spot) place at h = ([], refl, start_ended built spot place at h)
+  ended built (phase.Word param spot text) place at h = ([], [], (refl, refl), ([], refl, word_ended built param spot text h (text ++ [])))
+  ended built (phase.Behind param spot text) place at h = ([], refl, word_ended built param spot text h text)
+  ended built (phase.Comma param open_list) place at h = ([], refl, inr (inl (refl, cc)))
+  ended built (phase.Quoted param spot quote text utf8) place at h = inr (λ string rest w. w, cc)
+  ended built (phase.Escape param spot quote text) place at h = inr (λ string rest w. w, cc)
   ended built (phase.Code param raw utf8) place at h = inr (λ kept rest w. w, cc)
   ended built (phase.Semicolon param raw) place at h = inr (λ kept rest w. w, cc)
 

@@ -111,49 +111,49 @@ module _ (most size : ℕ) (t : List ℕ) (all : List Line) where
   -- ---- lists
 
   -- the entries so far with one more, and those behind it
-  unlisted : (depth : ℕ) (param : Param) (items : OpenList) (e : Entry) (es : List Entry) (rest : List ℕ) (more : List Line) → Emits most size depth (plain param.name param.place (list (items.entries ++ e ∷ es))) rest more → Emits most size depth (plain param.name param.place (list ((items.entries ++ e ∷ []) ++ es))) rest more
-  unlisted depth param items e es rest more h =
-      subst (λ x. Emits most size depth (plain param.name param.place (list x)) rest more) (sym (append_assoc items.entries (e ∷ []) es)) h
+  unlisted : (depth : ℕ) (param : Param) (open_list : OpenList) (e : Entry) (es : List Entry) (rest : List ℕ) (more : List Line) → Emits most size depth (plain param.name param.place (list (open_list.entries ++ e ∷ es))) rest more → Emits most size depth (plain param.name param.place (list ((open_list.entries ++ e ∷ []) ++ es))) rest more
+  unlisted depth param open_list e es rest more h =
+      subst (λ x. Emits most size depth (plain param.name param.place (list x)) rest more) (sym (append_assoc open_list.entries (e ∷ []) es)) h
 
   emitted : (built : Built) (param : Param) (value : Plain) (more : List Line) → all ≡ built.lines ++ more → Emits most size (length built.open_braces) (plain param.name param.place value) t more → Rest (record { builder = with_plain built param value; phase = phase.Between; comment = false })
   emitted built param value more e w =
       (w.0, regrouped built.lines more w.0 (plain param.name param.place value) e w.1, (w.2, w.3, w.4))
 
-  list_ends : (built : Built) (param : Param) (items : OpenList) (es : List Entry) (more : List Line) → all ≡ built.lines ++ more → es ≡ [] → Emits most size (length built.open_braces) (plain param.name param.place (list (items.entries ++ es))) t more → On Rest (list_ended built param items)
-  list_ends built param items es more e none w =
-      emitted built param (list items.entries) more e
-      (subst (λ x. Emits most size (length built.open_braces) (plain param.name param.place (list x)) t more) (ap (λ x. items.entries ++ x) none ∙ append-nil items.entries) w)
+  list_ends : (built : Built) (param : Param) (open_list : OpenList) (es : List Entry) (more : List Line) → all ≡ built.lines ++ more → es ≡ [] → Emits most size (length built.open_braces) (plain param.name param.place (list (open_list.entries ++ es))) t more → On Rest (list_ended built param open_list)
+  list_ends built param open_list es more e none w =
+      emitted built param (list open_list.entries) more e
+      (subst (λ x. Emits most size (length built.open_braces) (plain param.name param.place (list x)) t more) (ap (λ x. open_list.entries ++ x) none ∙ append-nil open_list.entries) w)
 
-  comma_on : (built : Built) (param : Param) (items : OpenList) (place b : ℕ) → From built (phase.Comma param items) b → On Rest (comma_at built param items place b)
-  comma_on built param items place b (more, e, (es, rest, inl (none, begins), emits)) =
+  comma_on : (built : Built) (param : Param) (open_list : OpenList) (place b : ℕ) → From built (phase.Comma param open_list) b → On Rest (comma_at built param open_list place b)
+  comma_on built param open_list place b (more, e, (es, rest, inl (none, begins), emits)) =
       let is : b ≡ 93 = head_of b 93 t rest begins in
       on_false Rest (b == 44) _ _ (ap (λ x. x == 44) is)
       (on_true Rest (b == 93) _ _ (eq-eqb b 93 is)
-      (list_ends built param items es more e none
-      (subst (λ x. Emits most size (length built.open_braces) (plain param.name param.place (list (items.entries ++ es))) x more) (tail_of b 93 t rest begins) emits)))
-  comma_on built param items place b (more, e, (es, rest, inr (comma, start, begins, gap, are), emits)) =
+      (list_ends built param open_list es more e none
+      (subst (λ x. Emits most size (length built.open_braces) (plain param.name param.place (list (open_list.entries ++ es))) x more) (tail_of b 93 t rest begins) emits)))
+  comma_on built param open_list place b (more, e, (es, rest, inr (comma, start, begins, gap, are), emits)) =
       on_true Rest (b == 44) _ _ (eq-eqb b 44 (head_of b 44 t comma begins))
       (more, e, (start, subst (λ x. IsGap x start) (tail_of b 44 t comma begins) gap, (es, rest, are, emits)))
 
   -- ---- where a value or an entry begins
 
   -- a word begins
-  word_on : (built : Built) (param : Param) (where_ : Slot) (place b : ℕ) (more : List Line) (w rest : List ℕ) → all ≡ built.lines ++ more → (is : IsWord (b ∷ t) w rest) → AtGap most size (length built.open_braces) (phase.Behind param where_ w) rest more → On Rest (start_at most built param where_ place b)
-  word_on built param where_ place b more w rest e is gap =
+  word_on : (built : Built) (param : Param) (spot : Slot) (place b : ℕ) (more : List Line) (w rest : List ℕ) → all ≡ built.lines ++ more → (is : IsWord (b ∷ t) w rest) → AtGap most size (length built.open_braces) (phase.Behind param spot w) rest more → On Rest (start_at most built param spot place b)
+  word_on built param spot place b more w rest e is gap =
       on_true Rest (is_word_byte b) _ _ is.0
-      (more, e, (is.1, rest, is.3, subst (λ x. AtGap most size (length built.open_braces) (phase.Behind param where_ x) rest more) is.2 gap))
+      (more, e, (is.1, rest, is.3, subst (λ x. AtGap most size (length built.open_braces) (phase.Behind param spot x) rest more) is.2 gap))
 
   -- a string begins
-  string_on : (built : Built) (param : Param) (where_ : Slot) (place b : ℕ) (more : List Line) (string rest : List ℕ) → all ≡ built.lines ++ more → (is : IsString (b ∷ t) string rest) → BehindString most size (length built.open_braces) param where_ string rest more → On Rest (start_at most built param where_ place b)
-  string_on built param where_ place b more string rest e is behind =
+  string_on : (built : Built) (param : Param) (spot : Slot) (place b : ℕ) (more : List Line) (string rest : List ℕ) → all ≡ built.lines ++ more → (is : IsString (b ∷ t) string rest) → BehindString most size (length built.open_braces) param spot string rest more → On Rest (start_at most built param spot place b)
+  string_on built param spot place b more string rest e is behind =
       let quote : b ≡ 34 = head_of b 34 t is.0 is.1 in
       on_false Rest (is_word_byte b) _ _ (ap is_word_byte quote)
       (on_true Rest (b == 34) _ _ (eq-eqb b 34 quote)
       (more, e, (string, rest, subst (λ x. IsQuoted x string rest) (tail_of b 34 t is.0 is.1) is.2, is.3, behind)))
 
   -- a bracket stands here
-  bracket_on : (built : Built) (param : Param) (where_ : Slot) (place b c : ℕ) → b ≡ c → is_word_byte c ≡ false → (c == 34) ≡ false → On Rest (bracket_at most built param where_ place b) → On Rest (start_at most built param where_ place b)
-  bracket_on built param where_ place b c is no_word not_quote r =
+  bracket_on : (built : Built) (param : Param) (spot : Slot) (place b c : ℕ) → b ≡ c → is_word_byte c ≡ false → (c == 34) ≡ false → On Rest (bracket_at most built param spot place b) → On Rest (start_at most built param spot place b)
+  bracket_on built param spot place b c is no_word not_quote r =
       on_false Rest (is_word_byte b) _ _ (ap is_word_byte is ∙ no_word) (on_false Rest (b == 34) _ _ (ap (λ x. x == 34) is ∙ not_quote) r)
 
   opened_on : (built : Built) (place : ℕ) (next : Built) (now : Phase) → length built.open_braces < most → Rest (record { builder = next; phase = now; comment = false }) → On Rest (opened most built place next now)
@@ -186,34 +186,34 @@ module _ (most size : ℕ) (t : List ℕ) (all : List Line) where
       word_on built param slot.Value place b more title behind e is (123 ∷ rest, gap, inr (rest, few, titled, refl, emits))
 
   -- an entry begins
-  entry_on : (built : Built) (param : Param) (items : OpenList) (place b : ℕ) (more : List Line) (first : Entry) (es : List Entry) (behind rest : List ℕ) → all ≡ built.lines ++ more → IsEntry (b ∷ t) first behind → BehindEntry most size (length built.open_braces) param (with_entry items first) behind more → On Rest (start_at most built param (slot.Entry items) place b)
-  entry_on built param items place b more (entry.Word w) es behind rest e is follows =
-      word_on built param (slot.Entry items) place b more w behind e is (follows.0, follows.1, inl follows.2)
-  entry_on built param items place b more (entry.Quoted q) es behind rest e is follows = string_on built param (slot.Entry items) place b more q behind e is follows
-  entry_on built param items place b more (entry.Pair key v) es behind rest e (after_key, colon, start, is, keyed, gap, gap2, scalar) follows =
-      word_on built param (slot.Entry items) place b more key after_key e is
+  entry_on : (built : Built) (param : Param) (open_list : OpenList) (place b : ℕ) (more : List Line) (first : Entry) (es : List Entry) (behind rest : List ℕ) → all ≡ built.lines ++ more → IsEntry (b ∷ t) first behind → BehindEntry most size (length built.open_braces) param (with_entry open_list first) behind more → On Rest (start_at most built param (slot.Entry open_list) place b)
+  entry_on built param open_list place b more (entry.Word w) es behind rest e is follows =
+      word_on built param (slot.Entry open_list) place b more w behind e is (follows.0, follows.1, inl follows.2)
+  entry_on built param open_list place b more (entry.Quoted q) es behind rest e is follows = string_on built param (slot.Entry open_list) place b more q behind e is follows
+  entry_on built param open_list place b more (entry.Pair key v) es behind rest e (after_key, colon, start, is, keyed, gap, gap2, scalar) follows =
+      word_on built param (slot.Entry open_list) place b more key after_key e is
       (58 ∷ colon, gap, inr (colon, start, v, behind, keyed, refl, gap2, scalar, follows))
 
-  entries_on : (built : Built) (param : Param) (items : OpenList) (place b : ℕ) (more : List Line) (es : List Entry) (rest : List ℕ) → all ≡ built.lines ++ more → AreEntries (b ∷ t) es rest → Emits most size (length built.open_braces) (plain param.name param.place (list (items.entries ++ es))) rest more → On Rest (start_at most built param (slot.Entry items) place b)
-  entries_on built param items place b more [] rest e begins emits =
+  entries_on : (built : Built) (param : Param) (open_list : OpenList) (place b : ℕ) (more : List Line) (es : List Entry) (rest : List ℕ) → all ≡ built.lines ++ more → AreEntries (b ∷ t) es rest → Emits most size (length built.open_braces) (plain param.name param.place (list (open_list.entries ++ es))) rest more → On Rest (start_at most built param (slot.Entry open_list) place b)
+  entries_on built param open_list place b more [] rest e begins emits =
       let bracket : b ≡ 93 = head_of b 93 t rest begins in
-      bracket_on built param (slot.Entry items) place b 93 bracket refl refl
+      bracket_on built param (slot.Entry open_list) place b 93 bracket refl refl
       (on_true Rest (b == 93) _ _ (eq-eqb b 93 bracket)
-      (list_ends built param items [] more e refl
-      (subst (λ x. Emits most size (length built.open_braces) (plain param.name param.place (list (items.entries ++ []))) x more) (tail_of b 93 t rest begins) emits)))
-  entries_on built param items place b more (first ∷ es) rest e (behind, next, is, gap, follows) emits =
-      entry_on built param items place b more first es behind rest e is
-      (next, gap, (es, rest, follows, unlisted (length built.open_braces) param items first es rest more emits))
+      (list_ends built param open_list [] more e refl
+      (subst (λ x. Emits most size (length built.open_braces) (plain param.name param.place (list (open_list.entries ++ []))) x more) (tail_of b 93 t rest begins) emits)))
+  entries_on built param open_list place b more (first ∷ es) rest e (behind, next, is, gap, follows) emits =
+      entry_on built param open_list place b more first es behind rest e is
+      (next, gap, (es, rest, follows, unlisted (length built.open_braces) param open_list first es rest more emits))
 
-  scalar_on : (built : Built) (param : Param) (items : OpenList) (key : List ℕ) (place b : ℕ) (more : List Line) (scalar rest : List ℕ) → all ≡ built.lines ++ more → IsScalar (b ∷ t) scalar rest → BehindEntry most size (length built.open_braces) param (with_entry items (entry.Pair key scalar)) rest more → On Rest (start_at most built param (slot.Pair items key) place b)
-  scalar_on built param items key place b more scalar rest e (inl is) follows = word_on built param (slot.Pair items key) place b more scalar rest e is follows
-  scalar_on built param items key place b more scalar rest e (inr is) follows = string_on built param (slot.Pair items key) place b more scalar rest e is follows
+  scalar_on : (built : Built) (param : Param) (open_list : OpenList) (key : List ℕ) (place b : ℕ) (more : List Line) (scalar rest : List ℕ) → all ≡ built.lines ++ more → IsScalar (b ∷ t) scalar rest → BehindEntry most size (length built.open_braces) param (with_entry open_list (entry.Pair key scalar)) rest more → On Rest (start_at most built param (slot.Pair open_list key) place b)
+  scalar_on built param open_list key place b more scalar rest e (inl is) follows = word_on built param (slot.Pair open_list key) place b more scalar rest e is follows
+  scalar_on built param open_list key place b more scalar rest e (inr is) follows = string_on built param (slot.Pair open_list key) place b more scalar rest e is follows
 
-  start_on : (built : Built) (param : Param) (where_ : Slot) (place b : ℕ) → From built (phase.Start param where_) b → On Rest (start_at most built param where_ place b)
+  start_on : (built : Built) (param : Param) (spot : Slot) (place b : ℕ) → From built (phase.Start param spot) b → On Rest (start_at most built param spot place b)
   start_on built param slot.Value place b (more, e, inl (value, rest, is, emits)) = value_on built param place b more value rest e is emits
   start_on built param slot.Value place b (more, e, inr (title, rest, few, is, emits)) = title_on built param place b more title rest e few is emits
-  start_on built param (slot.Entry items) place b (more, e, (es, rest, are, emits)) = entries_on built param items place b more es rest e are emits
-  start_on built param (slot.Pair items key) place b (more, e, (scalar, rest, is, follows)) = scalar_on built param items key place b more scalar rest e is follows
+  start_on built param (slot.Entry open_list) place b (more, e, (es, rest, are, emits)) = entries_on built param open_list place b more es rest e are emits
+  start_on built param (slot.Pair open_list key) place b (more, e, (scalar, rest, is, follows)) = scalar_on built param open_list key place b more scalar rest e is follows
 
   -- ---- behind a word
 
@@ -227,15 +227,15 @@ module _ (most size : ℕ) (t : List ℕ) (all : List Line) where
   not_brace b (inl h) = differs is_name_byte b 123 h refl
   not_brace b (inr e) = ap (λ x. x == 123) e
 
-  comma_begins : (depth b : ℕ) (param : Param) (items : OpenList) (more : List Line) → AtComma most size depth param items (b ∷ t) more → (b ≡ 93) ⊎ (b ≡ 44)
-  comma_begins depth b param items more (es, rest, inl (none, begins), emits) = inl (head_of b 93 t rest begins)
-  comma_begins depth b param items more (es, rest, inr (comma, start, begins, gap, are), emits) = inr (head_of b 44 t comma begins)
+  comma_begins : (depth b : ℕ) (param : Param) (open_list : OpenList) (more : List Line) → AtComma most size depth param open_list (b ∷ t) more → (b ≡ 93) ⊎ (b ≡ 44)
+  comma_begins depth b param open_list more (es, rest, inl (none, begins), emits) = inl (head_of b 93 t rest begins)
+  comma_begins depth b param open_list more (es, rest, inr (comma, start, begins, gap, are), emits) = inr (head_of b 44 t comma begins)
 
   not_colon : (b : ℕ) → (b ≡ 93) ⊎ (b ≡ 44) → (b == 58) ≡ false
   not_colon b (inl e) = ap (λ x. x == 58) e
   not_colon b (inr e) = ap (λ x. x == 58) e
 
-  behind_on : (built : Built) (param : Param) (where_ : Slot) (text : List ℕ) (place b : ℕ) → place + length (b ∷ t) ≡ size → From built (phase.Behind param where_ text) b → On Rest (behind_at most built param where_ text place b)
+  behind_on : (built : Built) (param : Param) (spot : Slot) (text : List ℕ) (place b : ℕ) → place + length (b ∷ t) ≡ size → From built (phase.Behind param spot text) b → On Rest (behind_at most built param spot text place b)
   behind_on built param slot.Value text place b at (more, e, inl (lines, f, are)) =
       on_false Rest (b == 123 && is_title text) _ _ (not_both (b == 123) (is_title text) (not_brace b (lines_begin (length built.open_braces) b lines are)))
       (between_on (with_plain built param (word text)) place b lines at (regrouped built.lines more lines (plain param.name param.place (word text)) e f) are)
@@ -243,14 +243,14 @@ module _ (most size : ℕ) (t : List ℕ) (all : List Line) where
       on_true Rest (b == 123 && is_title text) _ _ (both_true (b == 123) (is_title text) (eq-eqb b 123 (head_of b 123 t rest begins)) titled)
       (block_on built param (Some text) place more e few
       (subst (λ x. Emits most size (length built.open_braces) (block param.name param.place (Some text)) x more) (tail_of b 123 t rest begins) emits))
-  behind_on built param (slot.Entry items) text place b at (more, e, inl follows) =
+  behind_on built param (slot.Entry open_list) text place b at (more, e, inl follows) =
       on_false Rest (b == 58 && is_key text) _ _
-      (not_both (b == 58) (is_key text) (not_colon b (comma_begins (length built.open_braces) b param (with_entry items (entry.Word text)) more follows)))
-      (comma_on built param (with_entry items (entry.Word text)) place b (more, e, follows))
-  behind_on built param (slot.Entry items) text place b at (more, e, inr (colon, first, scalar, rest, keyed, begins, gap, is, follows)) =
+      (not_both (b == 58) (is_key text) (not_colon b (comma_begins (length built.open_braces) b param (with_entry open_list (entry.Word text)) more follows)))
+      (comma_on built param (with_entry open_list (entry.Word text)) place b (more, e, follows))
+  behind_on built param (slot.Entry open_list) text place b at (more, e, inr (colon, first, scalar, rest, keyed, begins, gap, is, follows)) =
       on_true Rest (b == 58 && is_key text) _ _ (both_true (b == 58) (is_key text) (eq-eqb b 58 (head_of b 58 t colon begins)) keyed)
       (more, e, (first, subst (λ x. IsGap x first) (tail_of b 58 t colon begins) gap, (scalar, rest, is, follows)))
-  behind_on built param (slot.Pair items key) text place b at w = comma_on built param (with_entry items (entry.Pair key text)) place b w
+  behind_on built param (slot.Pair open_list key) text place b at w = comma_on built param (with_entry open_list (entry.Pair key text)) place b w
 
   -- ---- white space and comments
 
@@ -288,29 +288,29 @@ module _ (most size : ℕ) (t : List ℕ) (all : List Line) where
   scalar_begins b scalar rest (inl is) = word_begins b is.0
   scalar_begins b scalar rest (inr is) = begins_at b 34 (head_of b 34 t is.0 is.1) (refl, refl)
 
-  start_begins : (depth b : ℕ) (param : Param) (where_ : Slot) (more : List Line) → AtStart most size depth param where_ (b ∷ t) more → BeginsPiece b
+  start_begins : (depth b : ℕ) (param : Param) (spot : Slot) (more : List Line) → AtStart most size depth param spot (b ∷ t) more → BeginsPiece b
   start_begins depth b param slot.Value more (inl (value, rest, is, emits)) = value_begins depth b value rest is
   start_begins depth b param slot.Value more (inr (title, rest, few, is, emits)) = opening_begins b title rest is
-  start_begins depth b param (slot.Entry items) more (es, rest, are, emits) = entries_begin b es rest are
-  start_begins depth b param (slot.Pair items key) more (scalar, rest, is, follows) = scalar_begins b scalar rest is
+  start_begins depth b param (slot.Entry open_list) more (es, rest, are, emits) = entries_begin b es rest are
+  start_begins depth b param (slot.Pair open_list key) more (scalar, rest, is, follows) = scalar_begins b scalar rest is
 
-  behind_begins : (depth b : ℕ) (param : Param) (where_ : Slot) (text : List ℕ) (more : List Line) → AtBehind most size depth param where_ text (b ∷ t) more → BeginsPiece b
+  behind_begins : (depth b : ℕ) (param : Param) (spot : Slot) (text : List ℕ) (more : List Line) → AtBehind most size depth param spot text (b ∷ t) more → BeginsPiece b
   behind_begins depth b param slot.Value text more (inl (lines, f, are)) = line_begins b (lines_begin depth b lines are)
   behind_begins depth b param slot.Value text more (inr w) = begins_at b 123 (head_of b 123 t w.0 w.3) (refl, refl)
-  behind_begins depth b param (slot.Entry items) text more (inl w) = comma_piece b (comma_begins depth b param (with_entry items (entry.Word text)) more w)
-  behind_begins depth b param (slot.Entry items) text more (inr w) = begins_at b 58 (head_of b 58 t w.0 w.5) (refl, refl)
-  behind_begins depth b param (slot.Pair items key) text more w = comma_piece b (comma_begins depth b param (with_entry items (entry.Pair key text)) more w)
+  behind_begins depth b param (slot.Entry open_list) text more (inl w) = comma_piece b (comma_begins depth b param (with_entry open_list (entry.Word text)) more w)
+  behind_begins depth b param (slot.Entry open_list) text more (inr w) = begins_at b 58 (head_of b 58 t w.0 w.5) (refl, refl)
+  behind_begins depth b param (slot.Pair open_list key) text more w = comma_piece b (comma_begins depth b param (with_entry open_list (entry.Pair key text)) more w)
 
   at_begins : (depth b : ℕ) (now : Phase) (more : List Line) → At most size depth now (b ∷ t) more → BeginsPiece b
   at_begins depth b phase.Between more w = line_begins b (lines_begin depth b more w)
   at_begins depth b (phase.Colon param) more w = begins_at b 58 (head_of b 58 t w.0 w.1) (refl, refl)
-  at_begins depth b (phase.Start param where_) more w = start_begins depth b param where_ more w
-  at_begins depth b (phase.Behind param where_ text) more w = behind_begins depth b param where_ text more w
-  at_begins depth b (phase.Comma param items) more w = comma_piece b (comma_begins depth b param items more w)
+  at_begins depth b (phase.Start param spot) more w = start_begins depth b param spot more w
+  at_begins depth b (phase.Behind param spot text) more w = behind_begins depth b param spot text more w
+  at_begins depth b (phase.Comma param open_list) more w = comma_piece b (comma_begins depth b param open_list more w)
   at_begins depth b (phase.Name name start) more w = absurd w
-  at_begins depth b (phase.Word param where_ text) more w = absurd w
-  at_begins depth b (phase.Quoted param where_ quote text utf8) more w = absurd w
-  at_begins depth b (phase.Escape param where_ quote text) more w = absurd w
+  at_begins depth b (phase.Word param spot text) more w = absurd w
+  at_begins depth b (phase.Quoted param spot quote text utf8) more w = absurd w
+  at_begins depth b (phase.Escape param spot quote text) more w = absurd w
   at_begins depth b (phase.Code param raw utf8) more w = absurd w
   at_begins depth b (phase.Semicolon param raw) more w = absurd w
 
@@ -347,43 +347,43 @@ module _ (most size : ℕ) (t : List ℕ) (all : List Line) where
             (λ i. ((ap (λ x. name ++ x) none ∙ append-nil name) i, same i)) gap,
       ))
 
-  word_on_more : (built : Built) (param : Param) (where_ : Slot) (text : List ℕ) (place b : ℕ) → place + length (b ∷ t) ≡ size → AllLines built (λ depth more. RestOf most size depth (phase.Word param where_ text) (b ∷ t) more) all → On Rest (word_at most built param where_ text place b)
-  word_on_more built param where_ text place b at (more, e, (run, rest, inl (h, others, f, r), gap)) =
+  word_on_more : (built : Built) (param : Param) (spot : Slot) (text : List ℕ) (place b : ℕ) → place + length (b ∷ t) ≡ size → AllLines built (λ depth more. RestOf most size depth (phase.Word param spot text) (b ∷ t) more) all → On Rest (word_at most built param spot text place b)
+  word_on_more built param spot text place b at (more, e, (run, rest, inl (h, others, f, r), gap)) =
       on_true Rest (is_word_byte b) _ _ h
-      (more, e, (others, rest, r, subst (λ x. AtGap most size (length built.open_braces) (phase.Behind param where_ x) rest more) (ap (λ x. text ++ x) f ∙ sym (append_assoc text (b ∷ []) others)) gap))
-  word_on_more built param where_ text place b at (more, e, (run, rest, inr (h, none, same), gap)) =
+      (more, e, (others, rest, r, subst (λ x. AtGap most size (length built.open_braces) (phase.Behind param spot x) rest more) (ap (λ x. text ++ x) f ∙ sym (append_assoc text (b ∷ []) others)) gap))
+  word_on_more built param spot text place b at (more, e, (run, rest, inr (h, none, same), gap)) =
       on_false Rest (is_word_byte b) _ _ h
-      (gap_on built (phase.Behind param where_ text) place b (λ _ _ _ w. w) (behind_on built param where_ text place b at) (
+      (gap_on built (phase.Behind param spot text) place b (λ _ _ _ w. w) (behind_on built param spot text place b at) (
         more,
         e,
-        subst (λ (x : List ℕ × List ℕ). AtGap most size (length built.open_braces) (phase.Behind param where_ x.0) x.1 more)
+        subst (λ (x : List ℕ × List ℕ). AtGap most size (length built.open_braces) (phase.Behind param spot x.0) x.1 more)
             (λ i. ((ap (λ x. text ++ x) none ∙ append-nil text) i, same i)) gap,
       ))
 
   -- ---- strings
 
-  string_ends : (built : Built) (param : Param) (where_ : Slot) (text : List ℕ) (more : List Line) → all ≡ built.lines ++ more → BehindString most size (length built.open_braces) param where_ text t more → On Rest (string_ended built param where_ text)
+  string_ends : (built : Built) (param : Param) (spot : Slot) (text : List ℕ) (more : List Line) → all ≡ built.lines ++ more → BehindString most size (length built.open_braces) param spot text t more → On Rest (string_ended built param spot text)
   string_ends built param slot.Value text more e w = emitted built param (quoted text) more e w
-  string_ends built param (slot.Entry items) text more e w = (more, e, w)
-  string_ends built param (slot.Pair items key) text more e w = (more, e, w)
+  string_ends built param (slot.Entry open_list) text more e w = (more, e, w)
+  string_ends built param (slot.Pair open_list key) text more e w = (more, e, w)
 
   escape_whole : (u : Utf8) (text string rest : List ℕ) → IsEscape text string rest → completes u string ≡ true → is_whole u ≡ true
   escape_whole u [] string rest w h = absurd w
   escape_whole u (b ∷ text) string rest w h = (unescaped_parts u b w.0 (subst (λ x. completes u x ≡ true) w.1 h)).0
 
-  quoted_on : (built : Built) (param : Param) (where_ : Slot) (quote : ℕ) (text : List ℕ) (utf8 : Utf8) (place b : ℕ) → AllLines built (λ depth more. RestOf most size depth (phase.Quoted param where_ quote text utf8) (b ∷ t) more) all → On Rest (quoted_at built param where_ quote text utf8 place b)
-  quoted_on built param where_ quote text utf8 place b (more, e, (string, rest, inl (is, none, same), done, behind)) =
+  quoted_on : (built : Built) (param : Param) (spot : Slot) (quote : ℕ) (text : List ℕ) (utf8 : Utf8) (place b : ℕ) → AllLines built (λ depth more. RestOf most size depth (phase.Quoted param spot quote text utf8) (b ∷ t) more) all → On Rest (quoted_at built param spot quote text utf8 place b)
+  quoted_on built param spot quote text utf8 place b (more, e, (string, rest, inl (is, none, same), done, behind)) =
       on_true Rest (is_whole utf8 && b == 34) _ _
       (both_true (is_whole utf8) (b == 34) (subst (λ x. completes utf8 x ≡ true) none done) (eq-eqb b 34 is))
-      (string_ends built param where_ text more e
-      (subst (λ (x : List ℕ × List ℕ). BehindString most size (length built.open_braces) param where_ x.0 x.1 more)
+      (string_ends built param spot text more e
+      (subst (λ (x : List ℕ × List ℕ). BehindString most size (length built.open_braces) param spot x.0 x.1 more)
       (λ i. ((ap (λ x. text ++ x) none ∙ append-nil text) i, same i)) behind))
-  quoted_on built param where_ quote text utf8 place b (more, e, (string, rest, inr (inl (is, escape)), done, behind)) =
+  quoted_on built param spot quote text utf8 place b (more, e, (string, rest, inr (inl (is, escape)), done, behind)) =
       let here = escape_whole utf8 t string rest escape done in
       on_false Rest (is_whole utf8 && b == 34) _ _ (not_both_right (is_whole utf8) (b == 34) (ap (λ x. x == 34) is))
       (on_true Rest (is_whole utf8 && b == 92) _ _ (both_true (is_whole utf8) (b == 92) here (eq-eqb b 92 is))
       (more, e, (string, rest, escape, subst (λ u. completes u string ≡ true) (whole_is utf8 here) done, behind)))
-  quoted_on built param where_ quote text utf8 place b (more, e, (string, rest, inr (inr (plain_, others, f, is)), done, behind)) =
+  quoted_on built param spot quote text utf8 place b (more, e, (string, rest, inr (inr (plain_, others, f, is)), done, behind)) =
       let tests = either_false (b == 34) (b == 92) plain_ in
       let parts = completes_parts utf8 b others (subst (λ x. completes utf8 x ≡ true) f done) in
       on_false Rest (is_whole utf8 && b == 34) _ _ (not_both_right (is_whole utf8) (b == 34) tests.0)
@@ -396,12 +396,12 @@ module _ (most size : ℕ) (t : List ℕ) (all : List Line) where
           rest,
           is,
           parts.2,
-          subst (λ x. BehindString most size (length built.open_braces) param where_ x rest more) (ap (λ x. text ++ x) f ∙ sym (append_assoc text (b ∷ []) others)) behind,
+          subst (λ x. BehindString most size (length built.open_braces) param spot x rest more) (ap (λ x. text ++ x) f ∙ sym (append_assoc text (b ∷ []) others)) behind,
         ),
       )))
 
-  escape_on : (built : Built) (param : Param) (where_ : Slot) (quote : ℕ) (text : List ℕ) (place b : ℕ) → AllLines built (λ depth more. RestOf most size depth (phase.Escape param where_ quote text) (b ∷ t) more) all → On Rest (escape_at built param where_ quote text place b)
-  escape_on built param where_ quote text place b (more, e, (string, rest, (others, f, is), done, behind)) =
+  escape_on : (built : Built) (param : Param) (spot : Slot) (quote : ℕ) (text : List ℕ) (place b : ℕ) → AllLines built (λ depth more. RestOf most size depth (phase.Escape param spot quote text) (b ∷ t) more) all → On Rest (escape_at built param spot quote text place b)
+  escape_on built param spot quote text place b (more, e, (string, rest, (others, f, is), done, behind)) =
       let parts = completes_parts utf.Whole b others (unescaped_parts utf.Whole b others (subst (λ x. completes utf.Whole x ≡ true) f done)).1 in
       on_next Rest built (utf8_after utf.Whole b) parts.0 _ place parts.1 (
         more,
@@ -411,7 +411,7 @@ module _ (most size : ℕ) (t : List ℕ) (all : List Line) where
           rest,
           is,
           parts.2,
-          subst (λ x. BehindString most size (length built.open_braces) param where_ x rest more) (ap (λ x. text ++ x) f ∙ sym (append_assoc text (unescaped b) others)) behind,
+          subst (λ x. BehindString most size (length built.open_braces) param spot x rest more) (ap (λ x. text ++ x) f ∙ sym (append_assoc text (unescaped b) others)) behind,
         ),
       )
 
@@ -468,16 +468,16 @@ module _ (most size : ℕ) (t : List ℕ) (all : List Line) where
 
   step_at_on : (built : Built) (now : Phase) (place b : ℕ) → place + length (b ∷ t) ≡ size → AllLines built (λ depth more. RestOf most size depth now (b ∷ t) more) all → On Rest (step_at most built now place b)
   step_at_on built (phase.Name name start) place b at w = name_on built name start place b w
-  step_at_on built (phase.Word param where_ text) place b at w = word_on_more built param where_ text place b at w
-  step_at_on built (phase.Quoted param where_ quote text utf8) place b at w = quoted_on built param where_ quote text utf8 place b w
-  step_at_on built (phase.Escape param where_ quote text) place b at w = escape_on built param where_ quote text place b w
+  step_at_on built (phase.Word param spot text) place b at w = word_on_more built param spot text place b at w
+  step_at_on built (phase.Quoted param spot quote text utf8) place b at w = quoted_on built param spot quote text utf8 place b w
+  step_at_on built (phase.Escape param spot quote text) place b at w = escape_on built param spot quote text place b w
   step_at_on built (phase.Code param raw utf8) place b at w = code_on built param raw utf8 place b w
   step_at_on built (phase.Semicolon param raw) place b at w = semicolon_on built param raw place b w
   step_at_on built phase.Between place b at w = gap_on built phase.Between place b (λ _ _ _ x. x) (λ x. between_on built place b x.0 at x.1 x.2) w
   step_at_on built (phase.Colon param) place b at w = gap_on built (phase.Colon param) place b (λ _ _ _ x. x) (colon_on built param place b) w
-  step_at_on built (phase.Start param where_) place b at w = gap_on built (phase.Start param where_) place b (λ _ _ _ x. x) (start_on built param where_ place b) w
-  step_at_on built (phase.Behind param where_ text) place b at w = gap_on built (phase.Behind param where_ text) place b (λ _ _ _ x. x) (behind_on built param where_ text place b at) w
-  step_at_on built (phase.Comma param items) place b at w = gap_on built (phase.Comma param items) place b (λ _ _ _ x. x) (comma_on built param items place b) w
+  step_at_on built (phase.Start param spot) place b at w = gap_on built (phase.Start param spot) place b (λ _ _ _ x. x) (start_on built param spot place b) w
+  step_at_on built (phase.Behind param spot text) place b at w = gap_on built (phase.Behind param spot text) place b (λ _ _ _ x. x) (behind_on built param spot text place b at) w
+  step_at_on built (phase.Comma param open_list) place b at w = gap_on built (phase.Comma param open_list) place b (λ _ _ _ x. x) (comma_on built param open_list place b) w
 
   comment_on : (built : Built) (now : Phase) (b : ℕ) (c : Bool) → (b == 10) ≡ c → IsRest most size (record { builder = built; phase = now; comment = true }) (b ∷ t) all → Rest (record { builder = built; phase = now; comment = not c })
   comment_on built now b true h (more, e, inl (is, w)) = (more, e, w)
@@ -528,26 +528,26 @@ module _ (most size : ℕ) where
   no_scalar scalar rest (inl is) = is
   no_scalar scalar rest (inr is) = let never = is.1 in cc
 
-  no_comma : (depth : ℕ) (param : Param) (items : OpenList) (more : List Line) → AtComma most size depth param items [] more → ⊥
-  no_comma depth param items more (es, rest, inl (none, begins), emits) = cc
-  no_comma depth param items more (es, rest, inr (comma, start, begins, gap, are), emits) = cc
+  no_comma : (depth : ℕ) (param : Param) (open_list : OpenList) (more : List Line) → AtComma most size depth param open_list [] more → ⊥
+  no_comma depth param open_list more (es, rest, inl (none, begins), emits) = cc
+  no_comma depth param open_list more (es, rest, inr (comma, start, begins, gap, are), emits) = cc
 
-  no_start : (depth : ℕ) (param : Param) (where_ : Slot) (more : List Line) → AtStart most size depth param where_ [] more → ⊥
+  no_start : (depth : ℕ) (param : Param) (spot : Slot) (more : List Line) → AtStart most size depth param spot [] more → ⊥
   no_start depth param slot.Value more (inl (value, rest, is, emits)) = no_value depth value rest is
   no_start depth param slot.Value more (inr (title, rest, few, is, emits)) = no_opening title rest is
-  no_start depth param (slot.Entry items) more (es, rest, are, emits) = no_entries es rest are
-  no_start depth param (slot.Pair items key) more (scalar, rest, is, follows) = no_scalar scalar rest is
+  no_start depth param (slot.Entry open_list) more (es, rest, are, emits) = no_entries es rest are
+  no_start depth param (slot.Pair open_list key) more (scalar, rest, is, follows) = no_scalar scalar rest is
 
-  word_ends : (built : Built) (param : Param) (where_ : Slot) (text : List ℕ) (all more : List Line) → all ≡ built.lines ++ more → AtBehind most size (length built.open_braces) param where_ text [] more → word_end built param where_ text ≡ Ok all
+  word_ends : (built : Built) (param : Param) (spot : Slot) (text : List ℕ) (all more : List Line) → all ≡ built.lines ++ more → AtBehind most size (length built.open_braces) param spot text [] more → word_end built param spot text ≡ Ok all
   word_ends built param slot.Value text all more e (inl (lines, f, are)) =
       let w = no_lines (length built.open_braces) lines are in
       whole_lines (built.lines ++ plain param.name param.place (word text) ∷ []) built.open_braces w.0
       ∙ ap (λ x. Ok (built.lines ++ plain param.name param.place (word text) ∷ x)) (sym w.1)
       ∙ ap (λ x. Ok (built.lines ++ x)) (sym f) ∙ ap Ok (sym e)
   word_ends built param slot.Value text all more e (inr w) = let never = w.3 in cc
-  word_ends built param (slot.Entry items) text all more e (inl w) = absurd (no_comma (length built.open_braces) param (with_entry items (entry.Word text)) more w)
-  word_ends built param (slot.Entry items) text all more e (inr w) = let never = w.5 in cc
-  word_ends built param (slot.Pair items key) text all more e w = absurd (no_comma (length built.open_braces) param (with_entry items (entry.Pair key text)) more w)
+  word_ends built param (slot.Entry open_list) text all more e (inl w) = absurd (no_comma (length built.open_braces) param (with_entry open_list (entry.Word text)) more w)
+  word_ends built param (slot.Entry open_list) text all more e (inr w) = let never = w.5 in cc
+  word_ends built param (slot.Pair open_list key) text all more e w = absurd (no_comma (length built.open_braces) param (with_entry open_list (entry.Pair key text)) more w)
 
   ended : (built : Built) (now : Phase) (place : ℕ) (all : List Line) → AllLines built (λ depth more. RestOf most size depth now [] more) all → end_at built now place ≡ Ok all
   ended built phase.Between place all (more, e, (start, none, are)) =
@@ -557,19 +557,19 @@ module _ (most size : ℕ) where
   ended built (phase.Name name begun_) place all (more, e, (run, rest, (no_run, no_rest), (start, gap, (content, begins, behind)))) =
       let none : start ≡ [] = subst (λ x. IsGap x start) no_rest gap in let never = sym begins ∙ none in cc
   ended built (phase.Colon param) place all (more, e, (start, none, (content, begins, behind))) = let never = sym begins ∙ none in cc
-  ended built (phase.Start param where_) place all (more, e, (start, none, w)) =
-      absurd (no_start (length built.open_braces) param where_ more (subst (λ x. AtStart most size (length built.open_braces) param where_ x more) none w))
-  ended built (phase.Word param where_ text) place all (more, e, (run, rest, (no_run, no_rest), (start, gap, w))) =
+  ended built (phase.Start param spot) place all (more, e, (start, none, w)) =
+      absurd (no_start (length built.open_braces) param spot more (subst (λ x. AtStart most size (length built.open_braces) param spot x more) none w))
+  ended built (phase.Word param spot text) place all (more, e, (run, rest, (no_run, no_rest), (start, gap, w))) =
       let none : start ≡ [] = subst (λ x. IsGap x start) no_rest gap in
-      word_ends built param where_ text all more e
-      (subst (λ (x : List ℕ × List ℕ). AtBehind most size (length built.open_braces) param where_ x.0 x.1 more)
+      word_ends built param spot text all more e
+      (subst (λ (x : List ℕ × List ℕ). AtBehind most size (length built.open_braces) param spot x.0 x.1 more)
       (λ i. ((ap (λ x. text ++ x) no_run ∙ append-nil text) i, none i)) w)
-  ended built (phase.Behind param where_ text) place all (more, e, (start, none, w)) =
-      word_ends built param where_ text all more e (subst (λ x. AtBehind most size (length built.open_braces) param where_ text x more) none w)
-  ended built (phase.Comma param items) place all (more, e, (start, none, w)) =
-      absurd (no_comma (length built.open_braces) param items more (subst (λ x. AtComma most size (length built.open_braces) param items x more) none w))
-  ended built (phase.Quoted param where_ quote text utf8) place all w = absurd w.2.2
-  ended built (phase.Escape param where_ quote text) place all w = absurd w.2.2
+  ended built (phase.Behind param spot text) place all (more, e, (start, none, w)) =
+      word_ends built param spot text all more e (subst (λ x. AtBehind most size (length built.open_braces) param spot text x more) none w)
+  ended built (phase.Comma param open_list) place all (more, e, (start, none, w)) =
+      absurd (no_comma (length built.open_braces) param open_list more (subst (λ x. AtComma most size (length built.open_braces) param open_list x more) none w))
+  ended built (phase.Quoted param spot quote text utf8) place all w = absurd w.2.2
+  ended built (phase.Escape param spot quote text) place all w = absurd w.2.2
   ended built (phase.Code param raw utf8) place all w = absurd w.2.2
   ended built (phase.Semicolon param raw) place all w = absurd w.2.2
 

@@ -56,8 +56,8 @@ module _ (most size : ℕ) (why : ReadFault) where
         ⊎ (((title : Option (List ℕ)) × (rest : List ℕ) × (brace : ℕ) × (length braces < most) × IsOpening start title rest
         × (brace + suc (length rest) ≡ size) × After (brace ∷ braces) rest)
         ⊎ IsCutValue most size braces start why)
-    CutStart (slot.Entry items) start = CutEntries items.bracket start
-    CutStart (slot.Pair items key) start = CutPair items.bracket start
+    CutStart (slot.Entry open_list) start = CutEntries open_list.bracket start
+    CutStart (slot.Pair open_list key) start = CutPair open_list.bracket start
 
     -- behind a word and the white space there
     abbrev pub CutBehind : Slot → List ℕ → List ℕ → Type 0
@@ -65,16 +65,16 @@ module _ (most size : ℕ) (why : ReadFault) where
         CutLines braces start
         ⊎ ((rest : List ℕ) × (brace : ℕ) × (length braces < most) × (is_title text ≡ true) × (start ≡ 123 ∷ rest)
         × (brace + suc (length rest) ≡ size) × After (brace ∷ braces) rest)
-    CutBehind (slot.Entry items) text start =
-        CutComma items.bracket start
-        ⊎ ((colon first : List ℕ) × (is_key text ≡ true) × (start ≡ 58 ∷ colon) × IsGap colon first × CutPair items.bracket first)
-    CutBehind (slot.Pair items key) text start = CutComma items.bracket start
+    CutBehind (slot.Entry open_list) text start =
+        CutComma open_list.bracket start
+        ⊎ ((colon first : List ℕ) × (is_key text ≡ true) × (start ≡ 58 ∷ colon) × IsGap colon first × CutPair open_list.bracket first)
+    CutBehind (slot.Pair open_list key) text start = CutComma open_list.bracket start
 
     -- behind a string
     abbrev pub CutString : Slot → List ℕ → Type 0
     CutString slot.Value rest = After braces rest
-    CutString (slot.Entry items) rest = CutBehindEntry items.bracket rest
-    CutString (slot.Pair items key) rest = CutBehindEntry items.bracket rest
+    CutString (slot.Entry open_list) rest = CutBehindEntry open_list.bracket rest
+    CutString (slot.Pair open_list key) rest = CutBehindEntry open_list.bracket rest
 
     -- behind a parameter's colon
     abbrev pub CutColon : Param → List ℕ → Type 0
@@ -88,9 +88,9 @@ module _ (most size : ℕ) (why : ReadFault) where
     CutAt phase.Between start = CutLines braces start
     CutAt (phase.Colon param) start =
         ((content : List ℕ) × (start ≡ 58 ∷ content) × CutColon param content) ⊎ ((start ≡ []) × IsMissing size braces why)
-    CutAt (phase.Start param where_) start = CutStart where_ start
-    CutAt (phase.Behind param where_ text) start = CutBehind where_ text start
-    CutAt (phase.Comma param items) start = CutComma items.bracket start
+    CutAt (phase.Start param spot) start = CutStart spot start
+    CutAt (phase.Behind param spot text) start = CutBehind spot text start
+    CutAt (phase.Comma param open_list) start = CutComma open_list.bracket start
     CutAt now start = ⊥
 
     abbrev pub CutGap : Phase → List ℕ → Type 0
@@ -100,13 +100,13 @@ module _ (most size : ℕ) (why : ReadFault) where
     abbrev pub CutRest : Phase → List ℕ → Type 0
     CutRest (phase.Name name place) text =
         (run rest : List ℕ) × IsRun is_name_byte text run rest × CutGap (phase.Colon (record { name = name ++ run; place = place })) rest
-    CutRest (phase.Word param where_ text0) text =
-        (run rest : List ℕ) × IsRun is_word_byte text run rest × CutGap (phase.Behind param where_ (text0 ++ run)) rest
-    CutRest (phase.Quoted param where_ quote text0 utf8) text =
-        ((string rest : List ℕ) × IsQuoted text string rest × (completes utf8 string ≡ true) × CutString where_ rest)
+    CutRest (phase.Word param spot text0) text =
+        (run rest : List ℕ) × IsRun is_word_byte text run rest × CutGap (phase.Behind param spot (text0 ++ run)) rest
+    CutRest (phase.Quoted param spot quote text0 utf8) text =
+        ((string rest : List ℕ) × IsQuoted text string rest × (completes utf8 string ≡ true) × CutString spot rest)
         ⊎ (((string rest : List ℕ) → IsQuoted text string rest → ⊥) × (why ≡ fault.R1 quote))
-    CutRest (phase.Escape param where_ quote text0) text =
-        ((string rest : List ℕ) × IsEscape text string rest × (completes utf.Whole string ≡ true) × CutString where_ rest)
+    CutRest (phase.Escape param spot quote text0) text =
+        ((string rest : List ℕ) × IsEscape text string rest × (completes utf.Whole string ≡ true) × CutString spot rest)
         ⊎ (((string rest : List ℕ) → IsEscape text string rest → ⊥) × (why ≡ fault.R1 quote))
     CutRest (phase.Code param raw utf8) text =
         ((kept rest : List ℕ) × IsCode text kept rest × (completes utf8 kept ≡ true) × After braces rest)

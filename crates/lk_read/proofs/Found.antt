@@ -96,55 +96,55 @@ module _ (most size : ℕ) (t : List ℕ) (all : List Line) where
   -- ---- lists
 
   -- a list that has one entry more before the others
-  listed : (depth : ℕ) (param : Param) (items : OpenList) (e : Entry) (es : List Entry) (rest : List ℕ) (more : List Line) → Emits most size depth (plain param.name param.place (list ((items.entries ++ e ∷ []) ++ es))) rest more → Emits most size depth (plain param.name param.place (list (items.entries ++ e ∷ es))) rest more
-  listed depth param items e es rest more h =
-      subst (λ x. Emits most size depth (plain param.name param.place (list x)) rest more) (append_assoc items.entries (e ∷ []) es) h
+  listed : (depth : ℕ) (param : Param) (open_list : OpenList) (e : Entry) (es : List Entry) (rest : List ℕ) (more : List Line) → Emits most size depth (plain param.name param.place (list ((open_list.entries ++ e ∷ []) ++ es))) rest more → Emits most size depth (plain param.name param.place (list (open_list.entries ++ e ∷ es))) rest more
+  listed depth param open_list e es rest more h =
+      subst (λ x. Emits most size depth (plain param.name param.place (list x)) rest more) (append_assoc open_list.entries (e ∷ []) es) h
 
-  list_ends : (built : Built) (param : Param) (items : OpenList) → Rest (record { builder = with_plain built param (list items.entries); phase = phase.Between; comment = false }) → AllLines built (λ depth more. Emits most size depth (plain param.name param.place (list (items.entries ++ []))) t more) all
-  list_ends built param items w =
-      let line = plain param.name param.place (list items.entries) in (
+  list_ends : (built : Built) (param : Param) (open_list : OpenList) → Rest (record { builder = with_plain built param (list open_list.entries); phase = phase.Between; comment = false }) → AllLines built (λ depth more. Emits most size depth (plain param.name param.place (list (open_list.entries ++ []))) t more) all
+  list_ends built param open_list w =
+      let line = plain param.name param.place (list open_list.entries) in (
         line ∷ w.0,
         regroup built.lines w.0 line all w.1,
-        (w.0, ap (λ x. plain param.name param.place (list x) ∷ w.0) (sym (append-nil items.entries)), w.2.0, w.2.1, w.2.2),
+        (w.0, ap (λ x. plain param.name param.place (list x) ∷ w.0) (sym (append-nil open_list.entries)), w.2.0, w.2.1, w.2.2),
       )
 
-  comma_back : (built : Built) (param : Param) (items : OpenList) (place b : ℕ) → Back Rest (From built (phase.Comma param items) b) (comma_at built param items place b)
-  comma_back built param items place b =
-      by_test (Back Rest (From built (phase.Comma param items) b)) (b == 44) _ _
+  comma_back : (built : Built) (param : Param) (open_list : OpenList) (place b : ℕ) → Back Rest (From built (phase.Comma param open_list) b) (comma_at built param open_list place b)
+  comma_back built param open_list place b =
+      by_test (Back Rest (From built (phase.Comma param open_list) b)) (b == 44) _ _
       (λ h w. (w.0, w.1, (w.2.2.0, w.2.2.1, inr (t, w.2.0, headed b 44 t h, w.2.1, w.2.2.2), w.2.2.3)))
-      (λ _. by_test (Back Rest (From built (phase.Comma param items) b)) (b == 93) _ _
-      (λ h w. let r = list_ends built param items w in (r.0, r.1, ([], t, inl (refl, headed b 93 t h), r.2)))
+      (λ _. by_test (Back Rest (From built (phase.Comma param open_list) b)) (b == 93) _ _
+      (λ h w. let r = list_ends built param open_list w in (r.0, r.1, ([], t, inl (refl, headed b 93 t h), r.2)))
       (λ _. tt))
 
   -- ---- where a value or an entry begins
 
-  word_start : (depth b : ℕ) (param : Param) (where_ : Slot) (run rest start : List ℕ) (more : List Line) → is_word_byte b ≡ true → IsRun is_word_byte t run rest → IsGap rest start → AtBehind most size depth param where_ (b ∷ run) start more → AtStart most size depth param where_ (b ∷ t) more
+  word_start : (depth b : ℕ) (param : Param) (spot : Slot) (run rest start : List ℕ) (more : List Line) → is_word_byte b ≡ true → IsRun is_word_byte t run rest → IsGap rest start → AtBehind most size depth param spot (b ∷ run) start more → AtStart most size depth param spot (b ∷ t) more
   word_start depth b param slot.Value run rest start more h r gap (inl v) =
       inl (word (b ∷ run), rest, (h, run, refl, r), (v.0, v.1, start, gap, v.2))
   word_start depth b param slot.Value run rest start more h r gap (inr v) =
       inr (Some (b ∷ run), v.0, v.1, (rest, (h, run, refl, r), v.2, subst (IsGap rest) v.3 gap), v.4)
-  word_start depth b param (slot.Entry items) run rest start more h r gap (inl v) =
-      (entry.Word (b ∷ run) ∷ v.0, v.1, (rest, start, (h, run, refl, r), gap, v.2), listed depth param items (entry.Word (b ∷ run)) v.0 v.1 more v.3)
-  word_start depth b param (slot.Entry items) run rest start more h r gap (inr v) =
+  word_start depth b param (slot.Entry open_list) run rest start more h r gap (inl v) =
+      (entry.Word (b ∷ run) ∷ v.0, v.1, (rest, start, (h, run, refl, r), gap, v.2), listed depth param open_list (entry.Word (b ∷ run)) v.0 v.1 more v.3)
+  word_start depth b param (slot.Entry open_list) run rest start more h r gap (inr v) =
       let e = entry.Pair (b ∷ run) v.2 in
       let next = v.8 in (
         e ∷ next.2.0,
         next.2.1,
         (v.3, next.0, (rest, v.0, v.1, (h, run, refl, r), v.4, subst (IsGap rest) v.5 gap, v.6, v.7), next.1, next.2.2),
-        listed depth param items e next.2.0 next.2.1 more next.2.3,
+        listed depth param open_list e next.2.0 next.2.1 more next.2.3,
       )
-  word_start depth b param (slot.Pair items key) run rest start more h r gap v =
+  word_start depth b param (slot.Pair open_list key) run rest start more h r gap v =
       (b ∷ run, rest, inl (h, run, refl, r), (start, gap, v))
 
-  string_start : (depth b : ℕ) (param : Param) (where_ : Slot) (string rest : List ℕ) (more : List Line) → (b == 34) ≡ true → IsQuoted t string rest → completes utf.Whole string ≡ true → BehindString most size depth param where_ string rest more → AtStart most size depth param where_ (b ∷ t) more
+  string_start : (depth b : ℕ) (param : Param) (spot : Slot) (string rest : List ℕ) (more : List Line) → (b == 34) ≡ true → IsQuoted t string rest → completes utf.Whole string ≡ true → BehindString most size depth param spot string rest more → AtStart most size depth param spot (b ∷ t) more
   string_start depth b param slot.Value string rest more h q u v = inl (quoted string, rest, (t, headed b 34 t h, q, u), v)
-  string_start depth b param (slot.Entry items) string rest more h q u v = (
+  string_start depth b param (slot.Entry open_list) string rest more h q u v = (
     entry.Quoted string ∷ v.2.0,
     v.2.1,
     (rest, v.0, (t, headed b 34 t h, q, u), v.1, v.2.2),
-    listed depth param items (entry.Quoted string) v.2.0 v.2.1 more v.2.3,
+    listed depth param open_list (entry.Quoted string) v.2.0 v.2.1 more v.2.3,
   )
-  string_start depth b param (slot.Pair items key) string rest more h q u v = (string, rest, inr (t, headed b 34 t h, q, u), v)
+  string_start depth b param (slot.Pair open_list key) string rest more h q u v = (string, rest, inr (t, headed b 34 t h, q, u), v)
 
   block_back : (built : Built) (param : Param) (title : Option (List ℕ)) (Goal : Type 0) (place : ℕ)
       → (length built.open_braces < most → AllLines built (λ depth more. Emits most size depth (block param.name param.place title) t more) all → Goal)
@@ -155,7 +155,7 @@ module _ (most size : ℕ) (t : List ℕ) (all : List Line) where
       f (ltb-true (length built.open_braces) most h) (line ∷ w.0, regroup built.lines w.0 line all w.1, (w.0, refl, w.2.0, w.2.1, w.2.2)))
       (λ _. tt)
 
-  bracket_back : (built : Built) (param : Param) (where_ : Slot) (place b : ℕ) → Back Rest (From built (phase.Start param where_) b) (bracket_at most built param where_ place b)
+  bracket_back : (built : Built) (param : Param) (spot : Slot) (place b : ℕ) → Back Rest (From built (phase.Start param spot) b) (bracket_at most built param spot place b)
   bracket_back built param slot.Value place b =
       by_test (Back Rest (From built (phase.Start param slot.Value) b)) (b == 91) _ _
       (λ h. by_test (Back Rest (From built (phase.Start param slot.Value) b)) (nat_lt (length built.open_braces) most) _ _
@@ -165,23 +165,23 @@ module _ (most size : ℕ) (t : List ℕ) (all : List Line) where
       (λ h. block_back built param None (From built (phase.Start param slot.Value) b) place
       (λ few r. (r.0, r.1, inr (None, t, few, headed b 123 t h, r.2))))
       (λ _. tt))
-  bracket_back built param (slot.Entry items) place b =
-      by_test (Back Rest (From built (phase.Start param (slot.Entry items)) b)) (b == 93) _ _
-      (λ h w. let r = list_ends built param items w in (r.0, r.1, ([], t, headed b 93 t h, r.2)))
+  bracket_back built param (slot.Entry open_list) place b =
+      by_test (Back Rest (From built (phase.Start param (slot.Entry open_list)) b)) (b == 93) _ _
+      (λ h w. let r = list_ends built param open_list w in (r.0, r.1, ([], t, headed b 93 t h, r.2)))
       (λ _. tt)
-  bracket_back built param (slot.Pair items key) place b = tt
+  bracket_back built param (slot.Pair open_list key) place b = tt
 
-  start_back : (built : Built) (param : Param) (where_ : Slot) (place b : ℕ) → Back Rest (From built (phase.Start param where_) b) (start_at most built param where_ place b)
-  start_back built param where_ place b =
-      by_test (Back Rest (From built (phase.Start param where_) b)) (is_word_byte b) _ _
-      (λ h w. (w.0, w.1, word_start (length built.open_braces) b param where_ w.2.0 w.2.1 w.2.3.0 w.0 h w.2.2 w.2.3.1 w.2.3.2))
-      (λ _. by_test (Back Rest (From built (phase.Start param where_) b)) (b == 34) _ _
-      (λ h w. (w.0, w.1, string_start (length built.open_braces) b param where_ w.2.0 w.2.1 w.0 h w.2.2 w.2.3 w.2.4))
-      (λ _. bracket_back built param where_ place b))
+  start_back : (built : Built) (param : Param) (spot : Slot) (place b : ℕ) → Back Rest (From built (phase.Start param spot) b) (start_at most built param spot place b)
+  start_back built param spot place b =
+      by_test (Back Rest (From built (phase.Start param spot) b)) (is_word_byte b) _ _
+      (λ h w. (w.0, w.1, word_start (length built.open_braces) b param spot w.2.0 w.2.1 w.2.3.0 w.0 h w.2.2 w.2.3.1 w.2.3.2))
+      (λ _. by_test (Back Rest (From built (phase.Start param spot) b)) (b == 34) _ _
+      (λ h w. (w.0, w.1, string_start (length built.open_braces) b param spot w.2.0 w.2.1 w.0 h w.2.2 w.2.3 w.2.4))
+      (λ _. bracket_back built param spot place b))
 
   -- ---- behind a word
 
-  behind_back : (built : Built) (param : Param) (where_ : Slot) (text : List ℕ) (place b : ℕ) → place + length (b ∷ t) ≡ size → Back Rest (From built (phase.Behind param where_ text) b) (behind_at most built param where_ text place b)
+  behind_back : (built : Built) (param : Param) (spot : Slot) (text : List ℕ) (place b : ℕ) → place + length (b ∷ t) ≡ size → Back Rest (From built (phase.Behind param spot text) b) (behind_at most built param spot text place b)
   behind_back built param slot.Value text place b at =
       by_test (Back Rest (From built (phase.Behind param slot.Value text) b)) (b == 123 && is_title text) _ _
       (λ h. let parts = both (b == 123) (is_title text) h in
@@ -191,15 +191,15 @@ module _ (most size : ℕ) (t : List ℕ) (all : List Line) where
       back_by Rest (between_at (with_plain built param (word text)) place b)
       (λ w. (line ∷ w.0, regroup built.lines w.0 line all w.1, inl (w.0, refl, w.2)))
       (between_back (with_plain built param (word text)) place b at))
-  behind_back built param (slot.Entry items) text place b at =
-      by_test (Back Rest (From built (phase.Behind param (slot.Entry items) text) b)) (b == 58 && is_key text) _ _
+  behind_back built param (slot.Entry open_list) text place b at =
+      by_test (Back Rest (From built (phase.Behind param (slot.Entry open_list) text) b)) (b == 58 && is_key text) _ _
       (λ h w. let parts = both (b == 58) (is_key text) h in
       (w.0, w.1, inr (t, w.2.0, w.2.2.0, w.2.2.1, parts.1, headed b 58 t parts.0, w.2.1, w.2.2.2, w.2.2.3)))
-      (λ _. back_by Rest (comma_at built param (with_entry items (entry.Word text)) place b)
+      (λ _. back_by Rest (comma_at built param (with_entry open_list (entry.Word text)) place b)
       (λ w. (w.0, w.1, inl w.2))
-      (comma_back built param (with_entry items (entry.Word text)) place b))
-  behind_back built param (slot.Pair items key) text place b at =
-      comma_back built param (with_entry items (entry.Pair key text)) place b
+      (comma_back built param (with_entry open_list (entry.Word text)) place b))
+  behind_back built param (slot.Pair open_list key) text place b at =
+      comma_back built param (with_entry open_list (entry.Pair key text)) place b
 
   -- ---- white space and comments
 
@@ -248,9 +248,9 @@ module _ (most size : ℕ) (t : List ℕ) (all : List Line) where
       ))
       (gap_back built (phase.Colon (record { name = name; place = start })) place b (λ _ _ _ r. r) (colon_back built (record { name = name; place = start }) place b)))
 
-  word_back : (built : Built) (param : Param) (where_ : Slot) (text : List ℕ) (place b : ℕ) → place + length (b ∷ t) ≡ size → Back Rest (AllLines built (λ depth more. RestOf most size depth (phase.Word param where_ text) (b ∷ t) more) all) (word_at most built param where_ text place b)
-  word_back built param where_ text place b at =
-      by_test (Back Rest (AllLines built (λ depth more. RestOf most size depth (phase.Word param where_ text) (b ∷ t) more) all)) (is_word_byte b) _ _
+  word_back : (built : Built) (param : Param) (spot : Slot) (text : List ℕ) (place b : ℕ) → place + length (b ∷ t) ≡ size → Back Rest (AllLines built (λ depth more. RestOf most size depth (phase.Word param spot text) (b ∷ t) more) all) (word_at most built param spot text place b)
+  word_back built param spot text place b at =
+      by_test (Back Rest (AllLines built (λ depth more. RestOf most size depth (phase.Word param spot text) (b ∷ t) more) all)) (is_word_byte b) _ _
       (λ h w. (
         w.0,
         w.1,
@@ -258,10 +258,10 @@ module _ (most size : ℕ) (t : List ℕ) (all : List Line) where
           b ∷ w.2.0,
           w.2.1,
           inl (h, w.2.0, refl, w.2.2),
-          subst (λ x. AtGap most size (length built.open_braces) (phase.Behind param where_ x) w.2.1 w.0) (append_assoc text (b ∷ []) w.2.0) w.2.3,
+          subst (λ x. AtGap most size (length built.open_braces) (phase.Behind param spot x) w.2.1 w.0) (append_assoc text (b ∷ []) w.2.0) w.2.3,
         ),
       ))
-      (λ h. back_by Rest (gap_at most built (phase.Behind param where_ text) place b)
+      (λ h. back_by Rest (gap_at most built (phase.Behind param spot text) place b)
       (λ w. (
         w.0,
         w.1,
@@ -269,28 +269,28 @@ module _ (most size : ℕ) (t : List ℕ) (all : List Line) where
           [],
           b ∷ t,
           inr (h, refl, refl),
-          subst (λ x. AtGap most size (length built.open_braces) (phase.Behind param where_ x) (b ∷ t) w.0) (sym (append-nil text)) w.2,
+          subst (λ x. AtGap most size (length built.open_braces) (phase.Behind param spot x) (b ∷ t) w.0) (sym (append-nil text)) w.2,
         ),
       ))
-      (gap_back built (phase.Behind param where_ text) place b (λ _ _ _ r. r) (behind_back built param where_ text place b at)))
+      (gap_back built (phase.Behind param spot text) place b (λ _ _ _ r. r) (behind_back built param spot text place b at)))
 
   -- ---- strings
 
-  string_back : (built : Built) (param : Param) (where_ : Slot) (text : List ℕ) → Back Rest (AllLines built (λ depth more. BehindString most size depth param where_ text t more) all) (string_ended built param where_ text)
+  string_back : (built : Built) (param : Param) (spot : Slot) (text : List ℕ) → Back Rest (AllLines built (λ depth more. BehindString most size depth param spot text t more) all) (string_ended built param spot text)
   string_back built param slot.Value text = λ w.
       let line = plain param.name param.place (quoted text) in
       (line ∷ w.0, regroup built.lines w.0 line all w.1, (w.0, refl, w.2.0, w.2.1, w.2.2))
-  string_back built param (slot.Entry items) text = λ w. w
-  string_back built param (slot.Pair items key) text = λ w. w
+  string_back built param (slot.Entry open_list) text = λ w. w
+  string_back built param (slot.Pair open_list key) text = λ w. w
 
   abbrev FromQuoted : Built → Param → Slot → ℕ → List ℕ → Utf8 → ℕ → Type 0
-  FromQuoted built param where_ quote text utf8 b = AllLines built (λ depth more. RestOf most size depth (phase.Quoted param where_ quote text utf8) (b ∷ t) more) all
+  FromQuoted built param spot quote text utf8 b = AllLines built (λ depth more. RestOf most size depth (phase.Quoted param spot quote text utf8) (b ∷ t) more) all
 
-  quoted_back : (built : Built) (param : Param) (where_ : Slot) (quote : ℕ) (text : List ℕ) (utf8 : Utf8) (place b : ℕ) → Back Rest (FromQuoted built param where_ quote text utf8 b) (quoted_at built param where_ quote text utf8 place b)
-  quoted_back built param where_ quote text utf8 place b =
-      by_test (Back Rest (FromQuoted built param where_ quote text utf8 b)) (is_whole utf8 && b == 34) _ _
+  quoted_back : (built : Built) (param : Param) (spot : Slot) (quote : ℕ) (text : List ℕ) (utf8 : Utf8) (place b : ℕ) → Back Rest (FromQuoted built param spot quote text utf8 b) (quoted_at built param spot quote text utf8 place b)
+  quoted_back built param spot quote text utf8 place b =
+      by_test (Back Rest (FromQuoted built param spot quote text utf8 b)) (is_whole utf8 && b == 34) _ _
       (λ h. let parts = both (is_whole utf8) (b == 34) h in
-      back_by Rest (string_ended built param where_ text)
+      back_by Rest (string_ended built param spot text)
       (λ w. (
         w.0,
         w.1,
@@ -299,11 +299,11 @@ module _ (most size : ℕ) (t : List ℕ) (all : List Line) where
           t,
           inl (eqb-true b 34 parts.1, refl, refl),
           parts.0,
-          subst (λ x. BehindString most size (length built.open_braces) param where_ x t w.0) (sym (append-nil text)) w.2,
+          subst (λ x. BehindString most size (length built.open_braces) param spot x t w.0) (sym (append-nil text)) w.2,
         ),
       ))
-      (string_back built param where_ text))
-      (λ going. by_test (Back Rest (FromQuoted built param where_ quote text utf8 b)) (is_whole utf8 && b == 92) _ _
+      (string_back built param spot text))
+      (λ going. by_test (Back Rest (FromQuoted built param spot quote text utf8 b)) (is_whole utf8 && b == 92) _ _
       (λ h w. let parts = both (is_whole utf8) (b == 92) h in (
         w.0,
         w.1,
@@ -315,7 +315,7 @@ module _ (most size : ℕ) (t : List ℕ) (all : List Line) where
           w.2.4,
         ),
       ))
-      (λ plain_. by_next (Back Rest (FromQuoted built param where_ quote text utf8 b)) built (utf8_after utf8 b) _ place tt
+      (λ plain_. by_next (Back Rest (FromQuoted built param spot quote text utf8 b)) built (utf8_after utf8 b) _ place tt
       (λ v e w. (
         w.0,
         w.1,
@@ -324,16 +324,16 @@ module _ (most size : ℕ) (t : List ℕ) (all : List Line) where
           w.2.1,
           inr (inr (neither (b == 34) (b == 92) (apart utf8 v b 34 no_quote going e) (apart utf8 v b 92 no_backslash plain_ e), w.2.0, refl, w.2.2)),
           completes_more utf8 v b w.2.0 e w.2.3,
-          subst (λ x. BehindString most size (length built.open_braces) param where_ x w.2.1 w.0) (append_assoc text (b ∷ []) w.2.0) w.2.4,
+          subst (λ x. BehindString most size (length built.open_braces) param spot x w.2.1 w.0) (append_assoc text (b ∷ []) w.2.0) w.2.4,
         ),
       ))))
 
   abbrev FromEscape : Built → Param → Slot → ℕ → List ℕ → ℕ → Type 0
-  FromEscape built param where_ quote text b = AllLines built (λ depth more. RestOf most size depth (phase.Escape param where_ quote text) (b ∷ t) more) all
+  FromEscape built param spot quote text b = AllLines built (λ depth more. RestOf most size depth (phase.Escape param spot quote text) (b ∷ t) more) all
 
-  escape_back : (built : Built) (param : Param) (where_ : Slot) (quote : ℕ) (text : List ℕ) (place b : ℕ) → Back Rest (FromEscape built param where_ quote text b) (escape_at built param where_ quote text place b)
-  escape_back built param where_ quote text place b =
-      by_next (Back Rest (FromEscape built param where_ quote text b)) built (utf8_after utf.Whole b) _ place tt
+  escape_back : (built : Built) (param : Param) (spot : Slot) (quote : ℕ) (text : List ℕ) (place b : ℕ) → Back Rest (FromEscape built param spot quote text b) (escape_at built param spot quote text place b)
+  escape_back built param spot quote text place b =
+      by_next (Back Rest (FromEscape built param spot quote text b)) built (utf8_after utf.Whole b) _ place tt
       (λ v e w. (
         w.0,
         w.1,
@@ -342,7 +342,7 @@ module _ (most size : ℕ) (t : List ℕ) (all : List Line) where
           w.2.1,
           (w.2.0, refl, w.2.2),
           completes_unescaped v b w.2.0 e w.2.3,
-          subst (λ x. BehindString most size (length built.open_braces) param where_ x w.2.1 w.0) (append_assoc text (unescaped b) w.2.0) w.2.4,
+          subst (λ x. BehindString most size (length built.open_braces) param spot x w.2.1 w.0) (append_assoc text (unescaped b) w.2.0) w.2.4,
         ),
       ))
 
@@ -412,16 +412,16 @@ module _ (most size : ℕ) (t : List ℕ) (all : List Line) where
 
   step_at_back : (built : Built) (now : Phase) (place b : ℕ) → place + length (b ∷ t) ≡ size → Back Rest (AllLines built (λ depth more. RestOf most size depth now (b ∷ t) more) all) (step_at most built now place b)
   step_at_back built (phase.Name name start) place b at = name_back built name start place b
-  step_at_back built (phase.Word param where_ text) place b at = word_back built param where_ text place b at
-  step_at_back built (phase.Quoted param where_ quote text utf8) place b at = quoted_back built param where_ quote text utf8 place b
-  step_at_back built (phase.Escape param where_ quote text) place b at = escape_back built param where_ quote text place b
+  step_at_back built (phase.Word param spot text) place b at = word_back built param spot text place b at
+  step_at_back built (phase.Quoted param spot quote text utf8) place b at = quoted_back built param spot quote text utf8 place b
+  step_at_back built (phase.Escape param spot quote text) place b at = escape_back built param spot quote text place b
   step_at_back built (phase.Code param raw utf8) place b at = code_back built param raw utf8 place b
   step_at_back built (phase.Semicolon param raw) place b at = semicolon_back built param raw place b
   step_at_back built phase.Between place b at = gap_back built phase.Between place b (λ _ _ _ r. r) (between_back built place b at)
   step_at_back built (phase.Colon param) place b at = gap_back built (phase.Colon param) place b (λ _ _ _ r. r) (colon_back built param place b)
-  step_at_back built (phase.Start param where_) place b at = gap_back built (phase.Start param where_) place b (λ _ _ _ r. r) (start_back built param where_ place b)
-  step_at_back built (phase.Behind param where_ text) place b at = gap_back built (phase.Behind param where_ text) place b (λ _ _ _ r. r) (behind_back built param where_ text place b at)
-  step_at_back built (phase.Comma param items) place b at = gap_back built (phase.Comma param items) place b (λ _ _ _ r. r) (comma_back built param items place b)
+  step_at_back built (phase.Start param spot) place b at = gap_back built (phase.Start param spot) place b (λ _ _ _ r. r) (start_back built param spot place b)
+  step_at_back built (phase.Behind param spot text) place b at = gap_back built (phase.Behind param spot text) place b (λ _ _ _ r. r) (behind_back built param spot text place b at)
+  step_at_back built (phase.Comma param open_list) place b at = gap_back built (phase.Comma param open_list) place b (λ _ _ _ r. r) (comma_back built param open_list place b)
 
   comment_back : (built : Built) (now : Phase) (b : ℕ) (c : Bool) → (b == 10) ≡ c → Rest (record { builder = built; phase = now; comment = not c }) → IsRest most size (record { builder = built; phase = now; comment = true }) (b ∷ t) all
   comment_back built now b true h w = (w.0, w.1, inl (eqb-true b 10 h, w.2))
@@ -442,17 +442,17 @@ module _ (most size : ℕ) where
   missing_never None place all h = cc
   missing_never (Some brace) place all h = cc
 
-  word_ended : (built : Built) (param : Param) (where_ : Slot) (text : List ℕ) (all : List Line) → word_end built param where_ text ≡ Ok all → AllLines built (λ depth more. AtGap most size depth (phase.Behind param where_ text) [] more) all
+  word_ended : (built : Built) (param : Param) (spot : Slot) (text : List ℕ) (all : List Line) → word_end built param spot text ≡ Ok all → AllLines built (λ depth more. AtGap most size depth (phase.Behind param spot text) [] more) all
   word_ended built param slot.Value text all h =
       let w = whole_ended (built.lines ++ plain param.name param.place (word text) ∷ []) built.open_braces all h in
       (plain param.name param.place (word text) ∷ [], w.0, ([], refl, inl ([], refl, (w.1, refl))))
-  word_ended built param (slot.Entry items) text all h = cc
-  word_ended built param (slot.Pair items key) text all h = cc
+  word_ended built param (slot.Entry open_list) text all h = cc
+  word_ended built param (slot.Pair open_list key) text all h = cc
 
-  start_never : (built : Built) (where_ : Slot) (place : ℕ) (all : List Line) → start_end built where_ place ≡ Ok all → ⊥
+  start_never : (built : Built) (spot : Slot) (place : ℕ) (all : List Line) → start_end built spot place ≡ Ok all → ⊥
   start_never built slot.Value place all h = missing_never (first_of built.open_braces) place all h
-  start_never built (slot.Entry items) place all h = cc
-  start_never built (slot.Pair items key) place all h = cc
+  start_never built (slot.Entry open_list) place all h = cc
+  start_never built (slot.Pair open_list key) place all h = cc
 
   ended : (built : Built) (now : Phase) (place : ℕ) (all : List Line) → end_at built now place ≡ Ok all → AllLines built (λ depth more. RestOf most size depth now [] more) all
   ended built phase.Between place all h =
@@ -460,14 +460,14 @@ module _ (most size : ℕ) where
       ([], w.0 ∙ sym (append-nil built.lines), ([], refl, (w.1, refl)))
   ended built (phase.Name name start) place all h = absurd (missing_never (first_of built.open_braces) place all h)
   ended built (phase.Colon param) place all h = absurd (missing_never (first_of built.open_braces) place all h)
-  ended built (phase.Start param where_) place all h = absurd (start_never built where_ place all h)
-  ended built (phase.Word param where_ text) place all h =
-      let w = word_ended built param where_ text all h in
-      (w.0, w.1, ([], [], (refl, refl), subst (λ x. AtGap most size (length built.open_braces) (phase.Behind param where_ x) [] w.0) (sym (append-nil text)) w.2))
-  ended built (phase.Behind param where_ text) place all h = word_ended built param where_ text all h
-  ended built (phase.Comma param items) place all h = cc
-  ended built (phase.Quoted param where_ quote text utf8) place all h = cc
-  ended built (phase.Escape param where_ quote text) place all h = cc
+  ended built (phase.Start param spot) place all h = absurd (start_never built spot place all h)
+  ended built (phase.Word param spot text) place all h =
+      let w = word_ended built param spot text all h in
+      (w.0, w.1, ([], [], (refl, refl), subst (λ x. AtGap most size (length built.open_braces) (phase.Behind param spot x) [] w.0) (sym (append-nil text)) w.2))
+  ended built (phase.Behind param spot text) place all h = word_ended built param spot text all h
+  ended built (phase.Comma param open_list) place all h = cc
+  ended built (phase.Quoted param spot quote text utf8) place all h = cc
+  ended built (phase.Escape param spot quote text) place all h = cc
   ended built (phase.Code param raw utf8) place all h = cc
   ended built (phase.Semicolon param raw) place all h = cc
 

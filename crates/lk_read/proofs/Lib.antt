@@ -10,3 +10,6 @@ pub mod Refused
 pub mod LinesLaws
 pub mod OutlineLaws
 pub mod Answered
+pub mod Valid
+pub mod RoundTrip
+pub mod Examples

@@ -26,41 +26,41 @@ module _ (most size depth : ℕ) where
 
   -- behind an entry of a list and the white space there
   abbrev pub AtComma : Param → OpenList → List ℕ → List Line → Type 0
-  AtComma param items next more =
+  AtComma param open_list next more =
       (es : List Entry) × (rest : List ℕ)
       × (((es ≡ []) × (next ≡ 93 ∷ rest)) ⊎ ((comma start : List ℕ) × (next ≡ 44 ∷ comma) × IsGap comma start × AreEntries start es rest))
-      × Emits (plain param.name param.place (list (items.entries ++ es))) rest more
+      × Emits (plain param.name param.place (list (open_list.entries ++ es))) rest more
 
   abbrev pub BehindEntry : Param → OpenList → List ℕ → List Line → Type 0
-  BehindEntry param items rest more = (next : List ℕ) × IsGap rest next × AtComma param items next more
+  BehindEntry param open_list rest more = (next : List ℕ) × IsGap rest next × AtComma param open_list next more
 
   -- where a value or an entry begins
   abbrev pub AtStart : Param → Slot → List ℕ → List Line → Type 0
   AtStart param slot.Value start more =
       ((value : Plain) × (rest : List ℕ) × IsValue most depth start value rest × Emits (plain param.name param.place value) rest more)
       ⊎ ((title : Option (List ℕ)) × (rest : List ℕ) × (depth < most) × IsOpening start title rest × Emits (block param.name param.place title) rest more)
-  AtStart param (slot.Entry items) start more =
+  AtStart param (slot.Entry open_list) start more =
       (es : List Entry) × (rest : List ℕ) × AreEntries start es rest
-      × Emits (plain param.name param.place (list (items.entries ++ es))) rest more
-  AtStart param (slot.Pair items key) start more =
-      (scalar rest : List ℕ) × IsScalar start scalar rest × BehindEntry param (with_entry items (entry.Pair key scalar)) rest more
+      × Emits (plain param.name param.place (list (open_list.entries ++ es))) rest more
+  AtStart param (slot.Pair open_list key) start more =
+      (scalar rest : List ℕ) × IsScalar start scalar rest × BehindEntry param (with_entry open_list (entry.Pair key scalar)) rest more
 
   -- behind a word and the white space there
   abbrev pub AtBehind : Param → Slot → List ℕ → List ℕ → List Line → Type 0
   AtBehind param slot.Value text start more =
       ((lines : List Line) × (more ≡ plain param.name param.place (word text) ∷ lines) × AreLines most size depth start lines)
       ⊎ ((rest : List ℕ) × (depth < most) × (is_title text ≡ true) × (start ≡ 123 ∷ rest) × Emits (block param.name param.place (Some text)) rest more)
-  AtBehind param (slot.Entry items) text start more =
-      AtComma param (with_entry items (entry.Word text)) start more
+  AtBehind param (slot.Entry open_list) text start more =
+      AtComma param (with_entry open_list (entry.Word text)) start more
       ⊎ ((colon first : List ℕ) × (scalar rest : List ℕ) × (is_key text ≡ true) × (start ≡ 58 ∷ colon) × IsGap colon first
-      × IsScalar first scalar rest × BehindEntry param (with_entry items (entry.Pair text scalar)) rest more)
-  AtBehind param (slot.Pair items key) text start more = AtComma param (with_entry items (entry.Pair key text)) start more
+      × IsScalar first scalar rest × BehindEntry param (with_entry open_list (entry.Pair text scalar)) rest more)
+  AtBehind param (slot.Pair open_list key) text start more = AtComma param (with_entry open_list (entry.Pair key text)) start more
 
   -- behind a string
   abbrev pub BehindString : Param → Slot → List ℕ → List ℕ → List Line → Type 0
   BehindString param slot.Value text rest more = Emits (plain param.name param.place (quoted text)) rest more
-  BehindString param (slot.Entry items) text rest more = BehindEntry param (with_entry items (entry.Quoted text)) rest more
-  BehindString param (slot.Pair items key) text rest more = BehindEntry param (with_entry items (entry.Pair key text)) rest more
+  BehindString param (slot.Entry open_list) text rest more = BehindEntry param (with_entry open_list (entry.Quoted text)) rest more
+  BehindString param (slot.Pair open_list key) text rest more = BehindEntry param (with_entry open_list (entry.Pair key text)) rest more
 
   -- behind a parameter's colon
   abbrev pub BehindColon : Param → List ℕ → List Line → Type 0
@@ -73,9 +73,9 @@ module _ (most size depth : ℕ) where
   abbrev pub At : Phase → List ℕ → List Line → Type 0
   At phase.Between start more = AreLines most size depth start more
   At (phase.Colon param) start more = (content : List ℕ) × (start ≡ 58 ∷ content) × BehindColon param content more
-  At (phase.Start param where_) start more = AtStart param where_ start more
-  At (phase.Behind param where_ text) start more = AtBehind param where_ text start more
-  At (phase.Comma param items) start more = AtComma param items start more
+  At (phase.Start param spot) start more = AtStart param spot start more
+  At (phase.Behind param spot text) start more = AtBehind param spot text start more
+  At (phase.Comma param open_list) start more = AtComma param open_list start more
   At now start more = ⊥
 
   abbrev pub AtGap : Phase → List ℕ → List Line → Type 0
@@ -85,12 +85,12 @@ module _ (most size depth : ℕ) where
   abbrev pub RestOf : Phase → List ℕ → List Line → Type 0
   RestOf (phase.Name name place) text more =
       (run rest : List ℕ) × IsRun is_name_byte text run rest × AtGap (phase.Colon (record { name = name ++ run; place = place })) rest more
-  RestOf (phase.Word param where_ text0) text more =
-      (run rest : List ℕ) × IsRun is_word_byte text run rest × AtGap (phase.Behind param where_ (text0 ++ run)) rest more
-  RestOf (phase.Quoted param where_ quote text0 utf8) text more =
-      (string rest : List ℕ) × IsQuoted text string rest × (completes utf8 string ≡ true) × BehindString param where_ (text0 ++ string) rest more
-  RestOf (phase.Escape param where_ quote text0) text more =
-      (string rest : List ℕ) × IsEscape text string rest × (completes utf.Whole string ≡ true) × BehindString param where_ (text0 ++ string) rest more
+  RestOf (phase.Word param spot text0) text more =
+      (run rest : List ℕ) × IsRun is_word_byte text run rest × AtGap (phase.Behind param spot (text0 ++ run)) rest more
+  RestOf (phase.Quoted param spot quote text0 utf8) text more =
+      (string rest : List ℕ) × IsQuoted text string rest × (completes utf8 string ≡ true) × BehindString param spot (text0 ++ string) rest more
+  RestOf (phase.Escape param spot quote text0) text more =
+      (string rest : List ℕ) × IsEscape text string rest × (completes utf.Whole string ≡ true) × BehindString param spot (text0 ++ string) rest more
   RestOf (phase.Code param raw utf8) text more =
       (kept rest : List ℕ) × IsCode text kept rest × (completes utf8 kept ≡ true)
       × Emits (plain param.name param.place (code (trimmed (raw ++ kept)))) rest more

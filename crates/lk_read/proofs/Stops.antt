@@ -52,44 +52,44 @@ module _ (place b : ℕ) where
   colon_kind built param =
       kind_test place (b == 58) (λ _. in_phase built (behind_colon param (is_code_name param.name))) (λ _. Err (fault.R4 place)) (goes _) wrong
 
-  bracket_kind : (built : Built) (param : Param) (where_ : Slot) → Kind place (λ most. bracket_at most built param where_ place b)
+  bracket_kind : (built : Built) (param : Param) (spot : Slot) → Kind place (λ most. bracket_at most built param spot place b)
   bracket_kind built param slot.Value =
       kind_test place (b == 91) (λ most. list_opened most built param place) _ (opens built built _)
       (kind_test place (b == 123) (λ most. block_opened most built param None place) (λ _. Err (fault.R4 place)) (opens built _ phase.Between) wrong)
-  bracket_kind built param (slot.Entry items) =
-      kind_test place (b == 93) (λ _. list_ended built param items) (λ _. Err (fault.R4 place)) (goes _) wrong
-  bracket_kind built param (slot.Pair items key) = wrong
+  bracket_kind built param (slot.Entry open_list) =
+      kind_test place (b == 93) (λ _. list_ended built param open_list) (λ _. Err (fault.R4 place)) (goes _) wrong
+  bracket_kind built param (slot.Pair open_list key) = wrong
 
-  start_kind : (built : Built) (param : Param) (where_ : Slot) → Kind place (λ most. start_at most built param where_ place b)
-  start_kind built param where_ =
-      kind_test place (is_word_byte b) (λ _. in_phase built (phase.Word param where_ (b ∷ []))) _ (goes _)
-      (kind_test place (b == 34) (λ _. in_phase built (phase.Quoted param where_ place [] utf.Whole)) (λ most. bracket_at most built param where_ place b) (goes _)
-      (bracket_kind built param where_))
+  start_kind : (built : Built) (param : Param) (spot : Slot) → Kind place (λ most. start_at most built param spot place b)
+  start_kind built param spot =
+      kind_test place (is_word_byte b) (λ _. in_phase built (phase.Word param spot (b ∷ []))) _ (goes _)
+      (kind_test place (b == 34) (λ _. in_phase built (phase.Quoted param spot place [] utf.Whole)) (λ most. bracket_at most built param spot place b) (goes _)
+      (bracket_kind built param spot))
 
-  comma_kind : (built : Built) (param : Param) (items : OpenList) → Kind place (λ most. comma_at built param items place b)
-  comma_kind built param items =
-      kind_test place (b == 44) (λ _. in_phase built (phase.Start param (slot.Entry items))) _ (goes _)
-      (kind_test place (b == 93) (λ _. list_ended built param items) (λ _. Err (fault.R4 place)) (goes _) wrong)
+  comma_kind : (built : Built) (param : Param) (open_list : OpenList) → Kind place (λ most. comma_at built param open_list place b)
+  comma_kind built param open_list =
+      kind_test place (b == 44) (λ _. in_phase built (phase.Start param (slot.Entry open_list))) _ (goes _)
+      (kind_test place (b == 93) (λ _. list_ended built param open_list) (λ _. Err (fault.R4 place)) (goes _) wrong)
 
-  behind_kind : (built : Built) (param : Param) (where_ : Slot) (text : List ℕ) → Kind place (λ most. behind_at most built param where_ text place b)
+  behind_kind : (built : Built) (param : Param) (spot : Slot) (text : List ℕ) → Kind place (λ most. behind_at most built param spot text place b)
   behind_kind built param slot.Value text =
       kind_test place (b == 123 && is_title text) (λ most. block_opened most built param (Some text) place) (λ _. between_at (with_plain built param (word text)) place b)
       (opens built _ phase.Between) (between_kind (with_plain built param (word text)))
-  behind_kind built param (slot.Entry items) text =
-      kind_test place (b == 58 && is_key text) (λ _. in_phase built (phase.Start param (slot.Pair items text))) (λ _. comma_at built param (with_entry items (entry.Word text)) place b)
-      (goes _) (comma_kind built param (with_entry items (entry.Word text)))
-  behind_kind built param (slot.Pair items key) text = comma_kind built param (with_entry items (entry.Pair key text))
+  behind_kind built param (slot.Entry open_list) text =
+      kind_test place (b == 58 && is_key text) (λ _. in_phase built (phase.Start param (slot.Pair open_list text))) (λ _. comma_at built param (with_entry open_list (entry.Word text)) place b)
+      (goes _) (comma_kind built param (with_entry open_list (entry.Word text)))
+  behind_kind built param (slot.Pair open_list key) text = comma_kind built param (with_entry open_list (entry.Pair key text))
 
   piece_kind : (built : Built) (now : Phase) → Kind place (λ most. piece_at most built now place b)
   piece_kind built phase.Between = between_kind built
   piece_kind built (phase.Colon param) = colon_kind built param
-  piece_kind built (phase.Start param where_) = start_kind built param where_
-  piece_kind built (phase.Behind param where_ text) = behind_kind built param where_ text
-  piece_kind built (phase.Comma param items) = comma_kind built param items
+  piece_kind built (phase.Start param spot) = start_kind built param spot
+  piece_kind built (phase.Behind param spot text) = behind_kind built param spot text
+  piece_kind built (phase.Comma param open_list) = comma_kind built param open_list
   piece_kind built (phase.Name name start) = wrong
-  piece_kind built (phase.Word param where_ text) = wrong
-  piece_kind built (phase.Quoted param where_ quote text utf8) = wrong
-  piece_kind built (phase.Escape param where_ quote text) = wrong
+  piece_kind built (phase.Word param spot text) = wrong
+  piece_kind built (phase.Quoted param spot quote text utf8) = wrong
+  piece_kind built (phase.Escape param spot quote text) = wrong
   piece_kind built (phase.Code param raw utf8) = wrong
   piece_kind built (phase.Semicolon param raw) = wrong
 
@@ -102,25 +102,25 @@ module _ (place b : ℕ) where
   next_kind built None now = wrong
   next_kind built (Some v) now = goes _
 
-  string_kind : (built : Built) (param : Param) (where_ : Slot) (text : List ℕ) → Kind place (λ most. string_ended built param where_ text)
+  string_kind : (built : Built) (param : Param) (spot : Slot) (text : List ℕ) → Kind place (λ most. string_ended built param spot text)
   string_kind built param slot.Value text = goes _
-  string_kind built param (slot.Entry items) text = goes _
-  string_kind built param (slot.Pair items key) text = goes _
+  string_kind built param (slot.Entry open_list) text = goes _
+  string_kind built param (slot.Pair open_list key) text = goes _
 
   step_at_kind : (built : Built) (now : Phase) → Kind place (λ most. step_at most built now place b)
   step_at_kind built (phase.Name name start) =
       kind_test place (is_name_byte b) (λ _. in_phase built (phase.Name (name ++ b ∷ []) start)) (λ most. gap_at most built (phase.Colon (record { name = name; place = start })) place b)
       (goes _) (gap_kind built (phase.Colon (record { name = name; place = start })))
-  step_at_kind built (phase.Word param where_ text) =
-      kind_test place (is_word_byte b) (λ _. in_phase built (phase.Word param where_ (text ++ b ∷ []))) (λ most. gap_at most built (phase.Behind param where_ text) place b)
-      (goes _) (gap_kind built (phase.Behind param where_ text))
-  step_at_kind built (phase.Quoted param where_ quote text utf8) =
-      kind_test place (is_whole utf8 && b == 34) (λ _. string_ended built param where_ text) _ (string_kind built param where_ text)
-      (kind_test place (is_whole utf8 && b == 92) (λ _. in_phase built (phase.Escape param where_ quote text))
-      (λ _. goes_to built (utf8_after utf8 b) (λ next. phase.Quoted param where_ quote (text ++ b ∷ []) next) place) (goes _)
-      (next_kind built (utf8_after utf8 b) (λ next. phase.Quoted param where_ quote (text ++ b ∷ []) next)))
-  step_at_kind built (phase.Escape param where_ quote text) =
-      next_kind built (utf8_after utf.Whole b) (λ next. phase.Quoted param where_ quote (text ++ unescaped b) next)
+  step_at_kind built (phase.Word param spot text) =
+      kind_test place (is_word_byte b) (λ _. in_phase built (phase.Word param spot (text ++ b ∷ []))) (λ most. gap_at most built (phase.Behind param spot text) place b)
+      (goes _) (gap_kind built (phase.Behind param spot text))
+  step_at_kind built (phase.Quoted param spot quote text utf8) =
+      kind_test place (is_whole utf8 && b == 34) (λ _. string_ended built param spot text) _ (string_kind built param spot text)
+      (kind_test place (is_whole utf8 && b == 92) (λ _. in_phase built (phase.Escape param spot quote text))
+      (λ _. goes_to built (utf8_after utf8 b) (λ next. phase.Quoted param spot quote (text ++ b ∷ []) next) place) (goes _)
+      (next_kind built (utf8_after utf8 b) (λ next. phase.Quoted param spot quote (text ++ b ∷ []) next)))
+  step_at_kind built (phase.Escape param spot quote text) =
+      next_kind built (utf8_after utf.Whole b) (λ next. phase.Quoted param spot quote (text ++ unescaped b) next)
   step_at_kind built (phase.Code param raw utf8) =
       kind_test place (is_whole utf8 && b == 59) (λ _. in_phase built (phase.Semicolon param raw))
       (λ _. goes_to built (utf8_after utf8 b) (λ next. phase.Code param (raw ++ b ∷ []) next) place) (goes _)
@@ -130,9 +130,9 @@ module _ (place b : ℕ) where
       (goes _) (next_kind built (utf8_after utf.Whole b) (λ next. phase.Code param (raw ++ 59 ∷ b ∷ []) next))
   step_at_kind built phase.Between = gap_kind built phase.Between
   step_at_kind built (phase.Colon param) = gap_kind built (phase.Colon param)
-  step_at_kind built (phase.Start param where_) = gap_kind built (phase.Start param where_)
-  step_at_kind built (phase.Behind param where_ text) = gap_kind built (phase.Behind param where_ text)
-  step_at_kind built (phase.Comma param items) = gap_kind built (phase.Comma param items)
+  step_at_kind built (phase.Start param spot) = gap_kind built (phase.Start param spot)
+  step_at_kind built (phase.Behind param spot text) = gap_kind built (phase.Behind param spot text)
+  step_at_kind built (phase.Comma param open_list) = gap_kind built (phase.Comma param open_list)
 
   pub step_kind : (built : Built) (now : Phase) (comment : Bool) → Kind place (λ most. step most (record { builder = built; phase = now; comment = comment }) place b)
   step_kind built now true = goes _

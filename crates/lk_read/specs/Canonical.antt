@@ -1,9 +1,9 @@
 -- The canonical text of a tree: one parameter a line, two spaces for each block that it stands in. (lookd)
-use Rattle.std.specs.Prelude.{ℕ, List, [], ◌∷◌, ◌++◌, Option, Some, None, codes, if◌then◌else◌}
+use Rattle.std.specs.Prelude.{◌≡◌, ℕ, List, [], ◌∷◌, ◌++◌, Option, Some, None, codes, if◌then◌else◌}
 use Rattle.lk_read.specs.declared.tree.Entry.{Entry}
 use Rattle.lk_read.specs.declared.tree.Entry.TheVariants as entry
 use Rattle.lk_read.specs.Outline.{Plain, word, quoted, list, code, Outline, no_more, leaf, branch, is_no_more}
-use Rattle.lk_read.specs.Grammar.{is_escaped}
+use Rattle.lk_read.specs.Grammar.{IsFile, is_escaped}
 
 -- a character of a string: a quote and a backslash have a backslash before them
 abbrev pub escaped : ℕ → List ℕ
@@ -59,3 +59,14 @@ text_at margin (branch name place title inner rest) =
 
 abbrev pub canonical : Outline → List ℕ
 canonical tree = text_at [] tree
+
+-- the tree with each place 0
+abbrev pub unplaced : Outline → Outline
+unplaced no_more = no_more
+unplaced (leaf name place value rest) = leaf name 0 value (unplaced rest)
+unplaced (branch name place title inner rest) = branch name 0 title (unplaced inner) (unplaced rest)
+
+-- where some text spells the tree, this text spells it too, places aside
+abbrev pub SpellsAgain : ℕ → List ℕ → Outline → Type 0
+SpellsAgain most text tree =
+    (source : List ℕ) → IsFile most source tree → (again : Outline) × IsFile most text again × (unplaced again ≡ unplaced tree)

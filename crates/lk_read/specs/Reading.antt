@@ -64,44 +64,44 @@ list_opened most built param place =
     opened most built place built (phase.Start param (slot.Entry (record { bracket = place; entries = [] })))
 
 abbrev pub list_ended : Built → Param → OpenList → Step
-list_ended built param items = in_phase (with_plain built param (list items.entries)) phase.Between
+list_ended built param open_list = in_phase (with_plain built param (list open_list.entries)) phase.Between
 
 abbrev pub with_entry : OpenList → Entry → OpenList
-with_entry items e = record { bracket = items.bracket; entries = items.entries ++ e ∷ [] }
+with_entry open_list e = record { bracket = open_list.bracket; entries = open_list.entries ++ e ∷ [] }
 
 -- a bracket where a value or an entry may begin
 abbrev pub bracket_at : ℕ → Built → Param → Slot → ℕ → ℕ → Step
 bracket_at most built param slot.Value place b =
     if b == 91 then list_opened most built param place else
     (if b == 123 then block_opened most built param None place else Err (fault.R4 place))
-bracket_at most built param (slot.Entry items) place b = if b == 93 then list_ended built param items else Err (fault.R4 place)
-bracket_at most built param (slot.Pair items key) place b = Err (fault.R4 place)
+bracket_at most built param (slot.Entry open_list) place b = if b == 93 then list_ended built param open_list else Err (fault.R4 place)
+bracket_at most built param (slot.Pair open_list key) place b = Err (fault.R4 place)
 
 abbrev pub start_at : ℕ → Built → Param → Slot → ℕ → ℕ → Step
-start_at most built param where_ place b =
-    if is_word_byte b then in_phase built (phase.Word param where_ (b ∷ [])) else
-    (if b == 34 then in_phase built (phase.Quoted param where_ place [] utf.Whole) else bracket_at most built param where_ place b)
+start_at most built param spot place b =
+    if is_word_byte b then in_phase built (phase.Word param spot (b ∷ [])) else
+    (if b == 34 then in_phase built (phase.Quoted param spot place [] utf.Whole) else bracket_at most built param spot place b)
 
 abbrev pub comma_at : Built → Param → OpenList → ℕ → ℕ → Step
-comma_at built param items place b =
-    if b == 44 then in_phase built (phase.Start param (slot.Entry items)) else
-    (if b == 93 then list_ended built param items else Err (fault.R4 place))
+comma_at built param open_list place b =
+    if b == 44 then in_phase built (phase.Start param (slot.Entry open_list)) else
+    (if b == 93 then list_ended built param open_list else Err (fault.R4 place))
 
 abbrev pub behind_at : ℕ → Built → Param → Slot → List ℕ → ℕ → ℕ → Step
 behind_at most built param slot.Value text place b =
     if b == 123 && is_title text then block_opened most built param (Some text) place
     else between_at (with_plain built param (word text)) place b
-behind_at most built param (slot.Entry items) text place b =
-    if b == 58 && is_key text then in_phase built (phase.Start param (slot.Pair items text))
-    else comma_at built param (with_entry items (entry.Word text)) place b
-behind_at most built param (slot.Pair items key) text place b = comma_at built param (with_entry items (entry.Pair key text)) place b
+behind_at most built param (slot.Entry open_list) text place b =
+    if b == 58 && is_key text then in_phase built (phase.Start param (slot.Pair open_list text))
+    else comma_at built param (with_entry open_list (entry.Word text)) place b
+behind_at most built param (slot.Pair open_list key) text place b = comma_at built param (with_entry open_list (entry.Pair key text)) place b
 
 abbrev pub piece_at : ℕ → Built → Phase → ℕ → ℕ → Step
 piece_at most built phase.Between place b = between_at built place b
 piece_at most built (phase.Colon param) place b = colon_at built param place b
-piece_at most built (phase.Start param where_) place b = start_at most built param where_ place b
-piece_at most built (phase.Behind param where_ text) place b = behind_at most built param where_ text place b
-piece_at most built (phase.Comma param items) place b = comma_at built param items place b
+piece_at most built (phase.Start param spot) place b = start_at most built param spot place b
+piece_at most built (phase.Behind param spot text) place b = behind_at most built param spot text place b
+piece_at most built (phase.Comma param open_list) place b = comma_at built param open_list place b
 piece_at most built now place b = Err (fault.R4 place)
 
 -- white space, a comment's beginning, or the next piece
@@ -118,18 +118,18 @@ goes_to built (Some next) now place = in_phase built (now next)
 
 abbrev pub string_ended : Built → Param → Slot → List ℕ → Step
 string_ended built param slot.Value text = in_phase (with_plain built param (quoted text)) phase.Between
-string_ended built param (slot.Entry items) text = in_phase built (phase.Comma param (with_entry items (entry.Quoted text)))
-string_ended built param (slot.Pair items key) text = in_phase built (phase.Comma param (with_entry items (entry.Pair key text)))
+string_ended built param (slot.Entry open_list) text = in_phase built (phase.Comma param (with_entry open_list (entry.Quoted text)))
+string_ended built param (slot.Pair open_list key) text = in_phase built (phase.Comma param (with_entry open_list (entry.Pair key text)))
 
 abbrev pub quoted_at : Built → Param → Slot → ℕ → List ℕ → Utf8 → ℕ → ℕ → Step
-quoted_at built param where_ quote text utf8 place b =
-    if is_whole utf8 && b == 34 then string_ended built param where_ text else
-    (if is_whole utf8 && b == 92 then in_phase built (phase.Escape param where_ quote text) else
-    goes_to built (utf8_after utf8 b) (λ next. phase.Quoted param where_ quote (text ++ b ∷ []) next) place)
+quoted_at built param spot quote text utf8 place b =
+    if is_whole utf8 && b == 34 then string_ended built param spot text else
+    (if is_whole utf8 && b == 92 then in_phase built (phase.Escape param spot quote text) else
+    goes_to built (utf8_after utf8 b) (λ next. phase.Quoted param spot quote (text ++ b ∷ []) next) place)
 
 abbrev pub escape_at : Built → Param → Slot → ℕ → List ℕ → ℕ → ℕ → Step
-escape_at built param where_ quote text place b =
-    goes_to built (utf8_after utf.Whole b) (λ next. phase.Quoted param where_ quote (text ++ unescaped b) next) place
+escape_at built param spot quote text place b =
+    goes_to built (utf8_after utf.Whole b) (λ next. phase.Quoted param spot quote (text ++ unescaped b) next) place
 
 abbrev pub code_at : Built → Param → List ℕ → Utf8 → ℕ → ℕ → Step
 code_at built param raw utf8 place b =
@@ -149,15 +149,15 @@ name_at most built name start place b =
     else gap_at most built (phase.Colon (record { name = name; place = start })) place b
 
 abbrev pub word_at : ℕ → Built → Param → Slot → List ℕ → ℕ → ℕ → Step
-word_at most built param where_ text place b =
-    if is_word_byte b then in_phase built (phase.Word param where_ (text ++ b ∷ []))
-    else gap_at most built (phase.Behind param where_ text) place b
+word_at most built param spot text place b =
+    if is_word_byte b then in_phase built (phase.Word param spot (text ++ b ∷ []))
+    else gap_at most built (phase.Behind param spot text) place b
 
 abbrev pub step_at : ℕ → Built → Phase → ℕ → ℕ → Step
 step_at most built (phase.Name name start) place b = name_at most built name start place b
-step_at most built (phase.Word param where_ text) place b = word_at most built param where_ text place b
-step_at most built (phase.Quoted param where_ quote text utf8) place b = quoted_at built param where_ quote text utf8 place b
-step_at most built (phase.Escape param where_ quote text) place b = escape_at built param where_ quote text place b
+step_at most built (phase.Word param spot text) place b = word_at most built param spot text place b
+step_at most built (phase.Quoted param spot quote text utf8) place b = quoted_at built param spot quote text utf8 place b
+step_at most built (phase.Escape param spot quote text) place b = escape_at built param spot quote text place b
 step_at most built (phase.Code param raw utf8) place b = code_at built param raw utf8 place b
 step_at most built (phase.Semicolon param raw) place b = semicolon_at built param raw place b
 step_at most built now place b = gap_at most built now place b
@@ -182,24 +182,24 @@ missing (Some brace) place = Err (fault.R2 brace)
 -- a text that ends where a value may begin, and behind a word
 abbrev pub start_end : Built → Slot → ℕ → Result (List Line) ReadFault
 start_end built slot.Value place = missing (first_of built.open_braces) place
-start_end built (slot.Entry items) place = Err (fault.R2 items.bracket)
-start_end built (slot.Pair items key) place = Err (fault.R2 items.bracket)
+start_end built (slot.Entry open_list) place = Err (fault.R2 open_list.bracket)
+start_end built (slot.Pair open_list key) place = Err (fault.R2 open_list.bracket)
 
 abbrev pub word_end : Built → Param → Slot → List ℕ → Result (List Line) ReadFault
 word_end built param slot.Value text = whole (with_plain built param (word text)) (first_of built.open_braces)
-word_end built param (slot.Entry items) text = Err (fault.R2 items.bracket)
-word_end built param (slot.Pair items key) text = Err (fault.R2 items.bracket)
+word_end built param (slot.Entry open_list) text = Err (fault.R2 open_list.bracket)
+word_end built param (slot.Pair open_list key) text = Err (fault.R2 open_list.bracket)
 
 abbrev pub end_at : Built → Phase → ℕ → Result (List Line) ReadFault
 end_at built phase.Between place = whole built (first_of built.open_braces)
 end_at built (phase.Name name start) place = missing (first_of built.open_braces) place
 end_at built (phase.Colon param) place = missing (first_of built.open_braces) place
-end_at built (phase.Start param where_) place = start_end built where_ place
-end_at built (phase.Word param where_ text) place = word_end built param where_ text
-end_at built (phase.Behind param where_ text) place = word_end built param where_ text
-end_at built (phase.Comma param items) place = Err (fault.R2 items.bracket)
-end_at built (phase.Quoted param where_ quote text utf8) place = Err (fault.R1 quote)
-end_at built (phase.Escape param where_ quote text) place = Err (fault.R1 quote)
+end_at built (phase.Start param spot) place = start_end built spot place
+end_at built (phase.Word param spot text) place = word_end built param spot text
+end_at built (phase.Behind param spot text) place = word_end built param spot text
+end_at built (phase.Comma param open_list) place = Err (fault.R2 open_list.bracket)
+end_at built (phase.Quoted param spot quote text utf8) place = Err (fault.R1 quote)
+end_at built (phase.Escape param spot quote text) place = Err (fault.R1 quote)
 end_at built (phase.Code param raw utf8) place = Err (fault.R3 param.place)
 end_at built (phase.Semicolon param raw) place = Err (fault.R3 param.place)
 

@@ -8,8 +8,9 @@ ghost use Rattle.lk_read.specs.Lines.{Line};
 
 use crate::builder::Builder;
 use crate::phase::{Param, Phase, Slot};
+use crate::pieces::{text_of, with_value};
 use crate::read_fault::ReadFault;
-use crate::reader::{Reader, text_of, with_value};
+use crate::reader::Reader;
 use crate::tree::{Node, Tree};
 use lk_val::{Bytes, Text};
 use std::alloc::Global;

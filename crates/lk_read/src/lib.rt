@@ -5,12 +5,15 @@ mod builder;
 mod file;
 mod letters;
 mod phase;
+mod pieces;
 mod print;
 mod read_fault;
 mod reader;
+mod string;
 mod tree;
 mod trim;
 mod utf8;
+mod value;
 
 pub use file::read_file;
 pub use print::print_tree;

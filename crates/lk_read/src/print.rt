@@ -1,5 +1,5 @@
 ghost use Rattle.std.specs.Prelude.{◌≡◌, ◌++◌, ◌∷◌, [], IfOk, Option, Some, None};
-ghost use Rattle.lk_read.specs.Canonical.{canonical, text_at, characters, escaped, string_text, entry_text, further_entries, entries_text, plain_text, title_text, start_text, block_text};
+ghost use Rattle.lk_read.specs.Canonical.{canonical, SpellsAgain, text_at, characters, escaped, string_text, entry_text, further_entries, entries_text, plain_text, title_text, start_text, block_text};
 ghost use Rattle.lk_read.specs.Outline.{no_more, list};
 ghost use Rattle.lk_read.specs.TreeOutline.{item_before, outline_of};
 
@@ -9,7 +9,9 @@ use std::alloc::Global;
 
 /// The canonical text of a tree: one parameter a line, two spaces for each block around it. (lookd)
 pub fn print_tree(alloc: Global, tree: &Tree) -> Result<Bytes, NoMemory>
-    ensures { IfOk result (λ text. text ≡ canonical tree.now) }
+    ensures canonical { IfOk result (λ text. text ≡ canonical tree.now) }
+    // Where a text spells the tree, this one does too, places aside: so reading it gives the tree again.
+    ensures again { IfOk result (λ text. SpellsAgain 32 text tree.now) }
 {
     print_items(alloc, Bytes::new(alloc), tree, &[])
 }

@@ -75,6 +75,7 @@ fn a_byte_stands_where_none_may(rt: HostRuntime) {
         ("a:", 2),
         ("a: ", 3),
         ("a # b", 5),
+        ("a: # b\r c", 9),
         ("a: b sql", 8),
         ("html: x ;;y", 11),
         ("a b", 2),
@@ -198,7 +199,7 @@ fn a_tree_prints_as_its_canonical_text(rt: HostRuntime) -> Result<(), Fail> {
             "a : [b, \"c\", d: \"e\", f.g: h,] i: []",
             "a: [b, \"c\", d: \"e\", f.g: \"h\"]\ni: []\n",
         ),
-        ("#x\na #y\n: #z\r\t b#\n", "a: b\n"),
+        ("#x\na #y\n: #z\n\r\t b#\n", "a: b\n"),
         ("a: \"b\\\"c\\\\d\\e # f\"", "a: \"b\\\"c\\\\d\\\\e # f\"\n"),
         ("sql:  a # \"b; c' \n;; d: e", "sql: a # \"b; c' ;;\nd: e\n"),
         (
