@@ -13,3 +13,4 @@ pub mod Answered
 pub mod Valid
 pub mod RoundTrip
 pub mod Examples
+pub mod Utf8Laws

@@ -127,7 +127,7 @@ AreEntries text (e ∷ es) rest =
     × (((es ≡ []) × (next ≡ 93 ∷ rest))
     ⊎ ((comma start : List ℕ) × (next ≡ 44 ∷ comma) × IsGap comma start × AreEntries start es rest))
 
--- a value where this many blocks are open; a list may stand in 31 blocks and not in 32
+-- a value where this many blocks are open: a list counts as one more, and may stand where fewer than `most` are open
 abbrev pub IsValue : ℕ → ℕ → List ℕ → Plain → List ℕ → Type 0
 IsValue most depth text (word w) rest = IsWord text w rest
 IsValue most depth text (quoted q) rest = IsString text q rest

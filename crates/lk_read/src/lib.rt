@@ -19,6 +19,7 @@ pub use file::read_file;
 pub use print::print_tree;
 pub use read_fault::ReadFault;
 pub use tree::{Entry, Item, Node, Tree};
+pub use utf8::whole_characters_are_utf8;
 
 #[cfg(test)]
 mod tests;

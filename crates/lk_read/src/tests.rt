@@ -1,4 +1,4 @@
-use crate::{Node, ReadFault, print_tree, read_file};
+use crate::{Node, ReadFault, Tree, print_tree, read_file};
 use lk_val::Bytes;
 use std::alloc::Global;
 use std::test::Fail;
@@ -258,5 +258,17 @@ fn a_model_of_ten_thousand_fields_is_read(rt: HostRuntime) -> Result<(), Fail> {
     text.append(b"}\n")?;
     let printed = canonical_of(rt.alloc(), text.as_slice())?;
     assert_eq!(rt; printed.as_slice(), text.as_slice());
+    Ok(())
+}
+
+#[test]
+fn a_tree_is_taken_apart_and_made_again(rt: HostRuntime) -> Result<(), Fail> {
+    let tree = read_file(rt.alloc(), b"a: b c: d")?;
+    let items = tree.into_vec();
+    assert_eq!(rt; items.len(), 2);
+    let made = Tree::from_vec(items);
+    assert!(rt; !made.is_empty());
+    let printed = print_tree(rt.alloc(), &made)?;
+    assert_eq!(rt; printed.as_slice(), b"a: b\nc: d\n".as_slice());
     Ok(())
 }

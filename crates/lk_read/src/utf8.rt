@@ -1,5 +1,6 @@
-ghost use Rattle.std.specs.Prelude.{◌≡◌};
-ghost use Rattle.lk_read.specs.Utf8.{utf8_after, is_whole, begun, owed};
+ghost use Rattle.std.specs.Prelude.{◌≡◌, ℕ, List, true};
+ghost use Rattle.std.specs.Str.{is_utf8};
+ghost use Rattle.lk_read.specs.Utf8.{utf8_after, is_text, is_whole, begun, owed};
 
 /// What a text in UTF-8 owes behind the bytes so far: nothing, or the last bytes of a character.
 #[derive(Clone, Copy, Debug, PartialEq, Eq)]
@@ -64,3 +65,8 @@ pub(crate) fn is_whole(utf8: Utf8) -> bool
 {
     matches!(utf8, Utf8::Whole)
 }
+
+/// Whole characters by the table are texts in UTF-8, so each string, word and code that is read makes a text.
+pub fn whole_characters_are_utf8()
+    ensures { (text : List ℕ) → is_text text ≡ true → is_utf8 text ≡ true }
+{}
