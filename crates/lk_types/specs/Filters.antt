@@ -1,5 +1,5 @@
 -- Which values pass a filter, and what its relative dates stand for at a moment.
-use Rattle.std.specs.Prelude.{ℕ, ◌+◌, ◌-◌, ◌*◌, ◌/◌, ◌%◌, ◌==◌, min, Bool, true, false, not, ◌&&◌, ◌||◌, ℤ, pos, int_le, int_lt, List, [], map, Option, Some, None}
+use Rattle.std.specs.Prelude.{ℕ, ◌+◌, ◌-◌, ◌*◌, ◌/◌, ◌%◌, ◌==◌, min, Bool, true, false, not, ◌&&◌, ◌||◌, ℤ, pos, int_le, int_lt, List, [], map, Option, Some, None, if◌then◌else◌}
 use Rattle.std.specs.List.{list_any, list_all}
 use Rattle.std.specs.Cmp.Lexicographic.{pointwise}
 use Rattle.std.specs.Ordering.{int_eq}
@@ -143,10 +143,14 @@ placed_test n (test.Recent k p) = test.In (days_of_units p (unit_of p n + 1 - k)
 placed_test n (test.Ago k p) = test.In (days_of_units p (unit_of p n - k) (unit_of p n + 1 - k))
 placed_test n t = t
 
+-- the day of a moment, from the first of year 1; a moment before that counts as it
+abbrev pub today_at : ℤ → ℕ
+today_at now = if int_lt (day_of_moment now) (from_1970 0) then 0 else from_year_one (day_of_moment now)
+
 -- the filter at a moment
 abbrev pub placed : ℤ → Filter → Filter
 placed now f =
-    let n = from_year_one (day_of_moment now) in
+    let n = today_at now in
     record { include = map (placed_test n) f.include; exclude = map (placed_test n) f.exclude; relative = false }
 
 -- ---- sameness

@@ -7,9 +7,9 @@ const MONTHS: [u64; 12] = [1, 2, 3, 4, 5, 6, 7, 8, 9, 10, 11, 12];
 // The day 1970-01-01, from 0001-01-01.
 const DAY_OF_1970: i64 = 719_162;
 
-// The year that a day is in; the day counts from 0001-01-01.
+/// The year that a day is in; the day counts from 0001-01-01. (Gregorian calendar)
 #[tactic(auto, unfolding(crate::specs::Calendar::year_of))]
-pub(crate) fn year_of(day: u64) -> u64
+pub fn year_of(day: u64) -> u64
     requires { day < 2 ^ 50 }
     ensures year { result ≡ year_of day }
     ensures bound { result < 2 ^ 50 }
@@ -24,9 +24,9 @@ pub(crate) fn year_of(day: u64) -> u64
     }
 }
 
-// The month of a year that a day is in.
+/// The month of a year that a day is in, 1 to 12; the day counts from 0001-01-01. (Gregorian calendar)
 #[tactic(auto, unfolding(crate::specs::Calendar::month_of))]
-pub(crate) fn month_of(year: u64, day: u64) -> u64
+pub fn month_of(year: u64, day: u64) -> u64
     requires { year < 2 ^ 50 }
     ensures month { result ≡ month_of year day }
     ensures bound { result ≤ 12 }
@@ -53,7 +53,8 @@ fn is_leap(year: u64) -> bool
     year % 4 == 0 && (year % 100 != 0 || year % 400 == 0)
 }
 
-fn year_start(year: u64) -> u64
+/// The first day of a year, from 0001-01-01. (Gregorian calendar)
+pub fn year_start(year: u64) -> u64
     requires { year ≤ 2 ^ 50 }
     ensures start { result ≡ year_start year }
     ensures bound { result < 2 ^ 60 }
@@ -62,7 +63,8 @@ fn year_start(year: u64) -> u64
     365 * before + before / 4 - before / 100 + before / 400
 }
 
-fn month_start(year: u64, month: u64) -> u64
+/// The first day of a month of a year, from 0001-01-01. (Gregorian calendar)
+pub fn month_start(year: u64, month: u64) -> u64
     requires { year < 2 ^ 50 }
     ensures { result ≡ month_start year month }
 {
@@ -91,9 +93,9 @@ fn days_before(month: u64) -> u64
     }
 }
 
-// A day from 1970-01-01 as one from 0001-01-01.
+/// A day from 1970-01-01 as one from 0001-01-01.
 #[tactic(auto, unfolding(crate::specs::Calendar::from_year_one))]
-pub(crate) fn from_year_one(day: i64) -> u64
+pub fn from_year_one(day: i64) -> u64
     requires low { neg_ℤ (pos (2 ^ 48)) ≤ℤ day }
     requires high { day ≤ℤ pos (2 ^ 48) }
     ensures day { result ≡ from_year_one day }
@@ -102,9 +104,9 @@ pub(crate) fn from_year_one(day: i64) -> u64
     (day + DAY_OF_1970).unsigned_abs()
 }
 
-// The day of a moment, from 1970-01-01.
+/// The day of a moment, both from 1970-01-01; a moment counts seconds.
 #[tactic(auto, unfolding(crate::specs::Calendar::day_of_moment))]
-pub(crate) fn day_of_moment(moment: i64) -> i64
+pub fn day_of_moment(moment: i64) -> i64
     ensures day { result ≡ day_of_moment moment }
     ensures low { neg_ℤ (pos (2 ^ 48)) ≤ℤ result }
     ensures high { result ≤ℤ pos (2 ^ 48) }

@@ -17,6 +17,7 @@ mod schema;
 
 pub use answer::{Answer, GivenRow, GroupRow, KeyValue, Pair, Partial, Reply, Route, RouteFrom};
 pub use bound::{Bound, Plan, Query, Sort};
+pub use calendar::{day_of_moment, from_year_one, month_of, month_start, year_of, year_start};
 pub use examples::{
     conflicts_are_of_visible_rows, derived_tables_are_answers, expressions_are_computed,
     filters_pass_values, rollups_fit_and_regroup, shop_filters_and_sorts_apply,
