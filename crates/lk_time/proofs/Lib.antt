@@ -1,0 +1,5 @@
+pub mod YearLaws
+pub mod CivilLaws
+pub mod FrameLaws
+pub mod AgainLaws
+pub mod FramingSteps

@@ -1,0 +1,16 @@
+//! Timeframes: a day or moment brought to one of LookML's eleven timeframes, and a timeframe to a coarser one.
+#![tactic(auto)]
+
+mod civil;
+mod coarsening;
+mod framing;
+mod laws;
+mod weekday;
+
+pub use coarsening::{NotHad, coarsen};
+pub use framing::frame;
+pub use laws::{calendar_is_civil, framing_again_is_framing};
+pub use weekday::day_name;
+
+#[cfg(test)]
+mod tests;
