@@ -12,7 +12,7 @@ use Rattle.lk_types.specs.declared.schema.Frame.{Frame}
 use Rattle.lk_types.specs.declared.schema.Frame.TheVariants.{Raw, Time, Date, Week, Month, Quarter, Year, HourOfDay, DayOfWeek, DayOfMonth, MonthNum}
 use Rattle.lk_time.specs.FrameValues.{IsInYears, IsNoText, frame_value}
 use Rattle.lk_time.proofs.YearLaws.{year_of-IsInYear, year_of-range}
-use Rattle.lk_time.proofs.CivilLaws.{IsDay, year_of-IsDay, month_of-IsDay, month_start-bound}
+use Rattle.lk_time.proofs.CivilLaws.{IsCivilDay, year_of-IsCivilDay, month_of-IsCivilDay, month_start-bound}
 use Rattle.lk_time.proofs.FrameLaws.{from_year_one-from_1970, from_year_one-bound, day_of_moment-range, second_of_moment-bound, day_of_moment-midnight, second_of_moment-midnight, month_of-range, first-of}
 
 -- ---- timeframes by their places
@@ -73,19 +73,19 @@ of_month : (f : Frame) (v : Value) (n s : ℕ) → n ≤ 3652058 → is_had_from
 of_month Month v n s h had =
     let range = month_of-range (year_of n) n (year_of-IsInYear n).from in
     let is = first-of n (month_of (year_of n) n) h range.0 range.1 in
-    rw (from_year_one-from_1970 (month_start (year_of n) (month_of (year_of n) n)), year_of-IsDay is, month_of-IsDay is) refl
+    rw (from_year_one-from_1970 (month_start (year_of n) (month_of (year_of n) n)), year_of-IsCivilDay is, month_of-IsCivilDay is) refl
 of_month Quarter v n s h had =
     let range = month_of-range (year_of n) n (year_of-IsInYear n).from in
     let is = first-of n (month_of (year_of n) n) h range.0 range.1 in
-    rw (from_year_one-from_1970 (month_start (year_of n) (month_of (year_of n) n)), year_of-IsDay is, month_of-IsDay is) refl
+    rw (from_year_one-from_1970 (month_start (year_of n) (month_of (year_of n) n)), year_of-IsCivilDay is, month_of-IsCivilDay is) refl
 of_month Year v n s h had =
     let range = month_of-range (year_of n) n (year_of-IsInYear n).from in
     let is = first-of n (month_of (year_of n) n) h range.0 range.1 in
-    rw (from_year_one-from_1970 (month_start (year_of n) (month_of (year_of n) n)), year_of-IsDay is) refl
+    rw (from_year_one-from_1970 (month_start (year_of n) (month_of (year_of n) n)), year_of-IsCivilDay is) refl
 of_month MonthNum v n s h had =
     let range = month_of-range (year_of n) n (year_of-IsInYear n).from in
     let is = first-of n (month_of (year_of n) n) h range.0 range.1 in
-    rw (from_year_one-from_1970 (month_start (year_of n) (month_of (year_of n) n)), year_of-IsDay is, month_of-IsDay is) refl
+    rw (from_year_one-from_1970 (month_start (year_of n) (month_of (year_of n) n)), year_of-IsCivilDay is, month_of-IsCivilDay is) refl
 of_month f v n s h had = absurd (false≢true had)
 
 of_quarter : (v : Value) (n s : ℕ) → n ≤ 3652058 → timeframe_of Year (framed Quarter v n s) ≡ framed Year v n s
@@ -93,7 +93,7 @@ of_quarter v n s h =
     let month = month_of (year_of n) n in
     let range = month_of-range (year_of n) n (year_of-IsInYear n).from in
     let is = first-of n (3 * ((month - 1) / 3) + 1) h (omega arith) (omega (arith, range)) in
-    rw (from_year_one-from_1970 (month_start (year_of n) (3 * ((month - 1) / 3) + 1)), year_of-IsDay is) refl
+    rw (from_year_one-from_1970 (month_start (year_of n) (3 * ((month - 1) / 3) + 1)), year_of-IsCivilDay is) refl
 
 -- ---- the law, for a value that lies s seconds after the midnight of day n
 

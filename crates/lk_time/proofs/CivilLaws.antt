@@ -15,7 +15,7 @@ use Rattle.lk_types.specs.Calendar.{from_year_one, from_1970, is_leap, year_of, 
 use Rattle.lk_time.proofs.YearLaws.{IsInYear, year_of-IsInYear, only_year}
 
 -- a civil date of a year from 1 on is day n from 0001-01-01
-pub record IsDay (y m d n : ℕ) : Type 0 where
+pub record IsCivilDay (y m d n : ℕ) : Type 0 where
   pub year : 1 ≤ y
   pub civil : IsCivilDate (pos y) m d
   pub day : n + 1 ≡ month_start y m + d
@@ -62,7 +62,7 @@ unfolding from_year_one
 from_year_one-pos z low = nonnegative (z +ℤ pos 719162) (omega (arith, signed_arith))
 
 -- the number of a civil date from 0001-01-01
-pub from_year_one-civil : (y m d : ℕ) → 1 ≤ y → IsCivilDate (pos y) m d → IsDay y m d (from_year_one (days_from_civil (pos y) m d))
+pub from_year_one-civil : (y m d : ℕ) → 1 ≤ y → IsCivilDate (pos y) m d → IsCivilDay y m d (from_year_one (days_from_civil (pos y) m d))
 from_year_one-civil y m d year civil =
     let count = days_from_civil-day_count (pos y) m d in
     let start = day_count-month_start y m d year civil.1.0 civil.1.1 civil.2.0 in
@@ -75,8 +75,8 @@ year_start-next y h =
     let next : y + 1 + 10000 ≡ suc (y + 10000) = omega arith in
     omega (arith, days_of_years-year_start y h, rw next at (days_of_years-year_start (y + 1) (omega arith)), days_of_years-suc (y + 10000), leap_day-shift (pos y) (y + 10000) refl)
 
-pub year_of-IsDay : {y m d n : ℕ} → IsDay y m d n → year_of n ≡ y
-year_of-IsDay {y} {m} {d} {n} is =
+pub year_of-IsCivilDay : {y m d n : ℕ} → IsCivilDay y m d n → year_of n ≡ y
+year_of-IsCivilDay {y} {m} {d} {n} is =
     let start = month_start-days_of_months y m is.civil.1.0 is.civil.1.1 in
     only_year n (year_of n) y (year_of-IsInYear n) (record {
       from = omega (arith, start, is.day, is.civil.2.0);
@@ -87,7 +87,7 @@ year_of-IsDay {y} {m} {d} {n} is =
 same_test : (a n k m : ℕ) → (k ≤ m → a ≤ n) → (m < k → n < a) → nat_le a n ≡ nat_le k m
 same_test a n k m le lt = grind (arith, nat_tests)
 
-has_begun : {y m d n : ℕ} → IsDay y m d n → (k : ℕ) → 1 ≤ k → k ≤ 12 → nat_le (month_start y k) n ≡ nat_le k m
+has_begun : {y m d n : ℕ} → IsCivilDay y m d n → (k : ℕ) → 1 ≤ k → k ≤ 12 → nat_le (month_start y k) n ≡ nat_le k m
 has_begun {y} {m} {d} {n} is k low high =
     let start = month_start-days_of_months y m is.civil.1.0 is.civil.1.1 in
     let of_k = month_start-days_of_months y k low high in
@@ -98,24 +98,24 @@ has_begun {y} {m} {d} {n} is k low high =
 count_upto : (m : ℕ) → 1 ≤ m → m ≤ 12 → count_by (λ k. nat_le k m) (1 ∷ 2 ∷ 3 ∷ 4 ∷ 5 ∷ 6 ∷ 7 ∷ 8 ∷ 9 ∷ 10 ∷ 11 ∷ 12 ∷ []) ≡ m
 count_upto m low high = grind (arith, nat_tests)
 
-pub month_of-IsDay : {y m d n : ℕ} → IsDay y m d n → month_of y n ≡ m
+pub month_of-IsCivilDay : {y m d n : ℕ} → IsCivilDay y m d n → month_of y n ≡ m
 unfolding month_of
-month_of-IsDay {y} {m} {d} {n} is =
+month_of-IsCivilDay {y} {m} {d} {n} is =
     let b = has_begun is in
     rw (b 1 (omega arith) (omega arith), b 2 (omega arith) (omega arith), b 3 (omega arith) (omega arith), b 4 (omega arith) (omega arith), b 5 (omega arith) (omega arith), b 6 (omega arith) (omega arith), b 7 (omega arith) (omega arith), b 8 (omega arith) (omega arith), b 9 (omega arith) (omega arith), b 10 (omega arith) (omega arith), b 11 (omega arith) (omega arith), b 12 (omega arith) (omega arith))
     (count_upto m is.civil.1.0 is.civil.1.1)
 
-pub day_of_month-IsDay : {y m d n : ℕ} → IsDay y m d n → day_of_month n ≡ d
+pub day_of_month-IsCivilDay : {y m d n : ℕ} → IsCivilDay y m d n → day_of_month n ≡ d
 unfolding day_of_month
-day_of_month-IsDay {y} {m} {d} {n} is = rw (year_of-IsDay is, month_of-IsDay is) (omega (arith, is.day, is.civil.2.0))
+day_of_month-IsCivilDay {y} {m} {d} {n} is = rw (year_of-IsCivilDay is, month_of-IsCivilDay is) (omega (arith, is.day, is.civil.2.0))
 
 -- a year from 1 on is no negative number
 pub year_pos : (z : ℤ) → pos 1 ≤ℤ z → pos (unsigned_abs z) ≡ z
 year_pos z h = nonnegative z (omega (arith, signed_arith))
 
-pub date-IsDay : (z : ℤ) (m d : ℕ) → pos 1 ≤ℤ z → IsCivilDate z m d → IsDay (unsigned_abs z) m d (from_year_one (days_from_civil z m d))
-date-IsDay (pos y) m d h civil = from_year_one-civil y m d (omega (arith, signed_arith)) civil
-date-IsDay (negsuc y) m d h civil = absurd (omega (arith, signed_arith))
+pub date-IsCivilDay : (z : ℤ) (m d : ℕ) → pos 1 ≤ℤ z → IsCivilDate z m d → IsCivilDay (unsigned_abs z) m d (from_year_one (days_from_civil z m d))
+date-IsCivilDay (pos y) m d h civil = from_year_one-civil y m d (omega (arith, signed_arith)) civil
+date-IsCivilDay (negsuc y) m d h civil = absurd (omega (arith, signed_arith))
 
 -- the dates before the year 1 are those with a smaller number than its first day
 pub year-from_one : (z : ℤ) (m d : ℕ) → IsCivilDate z m d → neg_ℤ (pos 719162) ≤ℤ days_from_civil z m d → pos 1 ≤ℤ z
@@ -144,18 +144,18 @@ pub record HasParts (date : Date) (day : ℤ) : Type 0 where
 pub date-HasParts : (date : Date) (day : ℤ) → epoch_day date ≡ day → neg_ℤ (pos 719162) ≤ℤ day → HasParts date day
 date-HasParts date day e low =
     let from : pos 1 ≤ℤ date.year = year-from_one date.year date.month date.day (civil date) (rw e low) in
-    let is : IsDay (unsigned_abs date.year) date.month date.day (from_year_one day) = rw e at (date-IsDay date.year date.month date.day from (civil date)) in
-    let year : year_of (from_year_one day) ≡ unsigned_abs date.year = year_of-IsDay is in
+    let is : IsCivilDay (unsigned_abs date.year) date.month date.day (from_year_one day) = rw e at (date-IsCivilDay date.year date.month date.day from (civil date)) in
+    let year : year_of (from_year_one day) ≡ unsigned_abs date.year = year_of-IsCivilDay is in
     record {
       years = from;
       year = rw year (sym (year_pos date.year from));
-      month = rw year (sym (month_of-IsDay is));
-      day_number = sym (day_of_month-IsDay is);
+      month = rw year (sym (month_of-IsCivilDay is));
+      day_number = sym (day_of_month-IsCivilDay is);
     }
 
 -- the first day of a month
-pub first-IsDay : (y m : ℕ) → 1 ≤ y → y ≤ 9999 → 1 ≤ m → m ≤ 12 → IsDay y m 1 (month_start y m)
-first-IsDay y m from to low high = record {
+pub first-IsCivilDay : (y m : ℕ) → 1 ≤ y → y ≤ 9999 → 1 ≤ m → m ≤ 12 → IsCivilDay y m 1 (month_start y m)
+first-IsCivilDay y m from to low high = record {
   year = from;
   civil = ((omega (arith, signed_arith), omega (arith, signed_arith)), (low, high), (omega arith, omega (arith, days_in_month_bounds (pos y) m)));
   day = refl;

@@ -13,7 +13,7 @@ use Rattle.lk_types.specs.declared.schema.Frame.{Frame}
 use Rattle.lk_types.specs.declared.schema.Frame.TheVariants.{Raw, Time, Date, Week, Month, Quarter, Year, HourOfDay, DayOfWeek, DayOfMonth, MonthNum}
 use Rattle.lk_time.specs.FrameValues.{IsInYears, IsDayInYears, IsMomentInYears}
 use Rattle.lk_time.proofs.YearLaws.{year_of-IsInYear, year_of-range}
-use Rattle.lk_time.proofs.CivilLaws.{IsDay, from_year_one-pos, first-IsDay, year_of-IsDay, month_of-IsDay}
+use Rattle.lk_time.proofs.CivilLaws.{IsCivilDay, from_year_one-pos, first-IsCivilDay, year_of-IsCivilDay, month_of-IsCivilDay}
 
 -- ---- days and moments in range
 
@@ -57,5 +57,5 @@ month_of-range y n h =
     (grind (arith, nat_tests), count_by-le-length (λ month. nat_le (month_start y month) n) (1 ∷ 2 ∷ 3 ∷ 4 ∷ 5 ∷ 6 ∷ 7 ∷ 8 ∷ 9 ∷ 10 ∷ 11 ∷ 12 ∷ []))
 
 -- the first day of a month of a day's year is in that month
-pub first-of : (n m : ℕ) → n ≤ 3652058 → 1 ≤ m → m ≤ 12 → IsDay (year_of n) m 1 (month_start (year_of n) m)
-first-of n m h low high = let range = year_of-range n h in first-IsDay (year_of n) m range.0 range.1 low high
+pub first-of : (n m : ℕ) → n ≤ 3652058 → 1 ≤ m → m ≤ 12 → IsCivilDay (year_of n) m 1 (month_start (year_of n) m)
+first-of n m h low high = let range = year_of-range n h in first-IsCivilDay (year_of n) m range.0 range.1 low high

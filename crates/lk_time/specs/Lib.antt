@@ -1,1 +1,2 @@
 pub mod FrameValues
+pub mod CivilDates

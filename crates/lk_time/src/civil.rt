@@ -5,7 +5,9 @@ ghost use Rattle.std.specs.Int.{IsInRange};
 ghost use Rattle.jiff_core.specs.Date.{epoch_day};
 ghost use Rattle.jiff_core.specs.Weekday.{monday_zero};
 ghost use Rattle.lk_types.specs.Calendar.{from_year_one, from_1970, year_of, year_start, month_of, month_start, day_of_month};
-ghost use Rattle.lk_types.specs.Timeframes.{quarter_start};
+ghost use Rattle.lk_types.specs.Timeframes.{timeframe_of, quarter_start};
+ghost use Rattle.lk_types.specs.declared.schema.Frame.TheVariants as frame;
+ghost use Rattle.lk_val.specs.declared.value.Value.TheVariants as value;
 ghost use Rattle.lk_time.specs.FrameValues.{IsDayInYears};
 
 use jiff_core::civil::{Date, Weekday};
@@ -33,7 +35,7 @@ fn date_at(day: i32) -> Date
 // The Monday at or before a day.
 pub(crate) fn week_start(day: i32) -> i32
     requires { IsDayInYears day }
-    ensures start { result ≡ from_1970 (from_year_one day - from_year_one day % 7) }
+    ensures start { value.Day result ≡ timeframe_of frame.Week (value.Day day) }
     ensures in_range { IsDayInYears result }
 {
     day - i32::from(weekday_of(day).index())
@@ -50,7 +52,7 @@ pub(crate) fn weekday_of(day: i32) -> Weekday
 // The first day of a day's month.
 pub(crate) fn month_start(day: i32) -> i32
     requires { IsDayInYears day }
-    ensures start { result ≡ from_1970 (month_start (year_of (from_year_one day)) (month_of (year_of (from_year_one day)) (from_year_one day))) }
+    ensures start { value.Day result ≡ timeframe_of frame.Month (value.Day day) }
     ensures in_range { IsDayInYears result }
 {
     let date = date_of(day);
@@ -60,7 +62,7 @@ pub(crate) fn month_start(day: i32) -> i32
 // The first day of a day's quarter.
 pub(crate) fn quarter_start(day: i32) -> i32
     requires { IsDayInYears day }
-    ensures start { result ≡ from_1970 (quarter_start (year_of (from_year_one day)) (month_of (year_of (from_year_one day)) (from_year_one day))) }
+    ensures start { value.Day result ≡ timeframe_of frame.Quarter (value.Day day) }
     ensures in_range { IsDayInYears result }
 {
     let date = date_of(day);
@@ -70,7 +72,7 @@ pub(crate) fn quarter_start(day: i32) -> i32
 // The first day of a day's year.
 pub(crate) fn year_start(day: i32) -> i32
     requires { IsDayInYears day }
-    ensures start { result ≡ from_1970 (year_start (year_of (from_year_one day))) }
+    ensures start { value.Day result ≡ timeframe_of frame.Year (value.Day day) }
     ensures in_range { IsDayInYears result }
 {
     first_day(date_of(day).year, 1)

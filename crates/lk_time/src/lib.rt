@@ -5,11 +5,13 @@ mod civil;
 mod coarsening;
 mod framing;
 mod laws;
+mod range;
 mod weekday;
 
 pub use coarsening::{NotHad, coarsen};
 pub use framing::frame;
 pub use laws::{calendar_is_civil, framing_again_is_framing};
+pub use range::is_in_years;
 pub use weekday::day_name;
 
 #[cfg(test)]
