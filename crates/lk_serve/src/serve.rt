@@ -22,8 +22,8 @@ use crate::replies::{Reply, answered, faulty, refused, unknown, usage};
 use crate::stops::Stop;
 use crate::words::read_words;
 use lk_io::{Files, Sink, Source};
-use lk_project::Project;
 use lk_plain::{Bound, Pick, answer};
+use lk_project::Project;
 use lk_val::{Bytes, Items, NoMemory, Text, is_among};
 use std::alloc::Global;
 
