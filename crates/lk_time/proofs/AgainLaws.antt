@@ -1,5 +1,5 @@
 -- A timeframe of a timeframe is the timeframe, wherever the one is had from the other.
-use Rattle.std.proofs.Common.{◌≡◌, ℕ, zero, suc, ◌+◌, ◌-◌, ◌*◌, ◌/◌, ◌%◌, ◌<◌, ◌≤◌, Bool, true, false, refl, sym, ap, ◌∙◌, subst, arith, ℤ, pos, ◌+ℤ◌}
+use Rattle.std.proofs.Common.{◌≡◌, ℕ, zero, suc, ◌+◌, ◌-◌, ◌*◌, ◌/◌, ◌<◌, ◌≤◌, true, false, refl, sym, ap, ◌∙◌, arith, pos, ◌+ℤ◌}
 use Rattle.std.specs.Prelude.{◌==◌, if◌then◌else◌}
 use Rattle.std.proofs.lemmas.Bool.{false≢true}
 use Rattle.std.proofs.lemmas.Bool.Decides.{nat_tests}
@@ -12,7 +12,7 @@ use Rattle.lk_types.specs.declared.schema.Frame.{Frame}
 use Rattle.lk_types.specs.declared.schema.Frame.TheVariants.{Raw, Time, Date, Week, Month, Quarter, Year, HourOfDay, DayOfWeek, DayOfMonth, MonthNum}
 use Rattle.lk_time.specs.FrameValues.{IsInYears, IsNoText, frame_value}
 use Rattle.lk_time.proofs.YearLaws.{year_of-IsInYear, year_of-range}
-use Rattle.lk_time.proofs.CivilLaws.{IsCivilDay, year_of-IsCivilDay, month_of-IsCivilDay, month_start-bound}
+use Rattle.lk_time.proofs.CivilLaws.{year_of-IsCivilDay, month_of-IsCivilDay, month_start-bound}
 use Rattle.lk_time.proofs.FrameLaws.{from_year_one-from_1970, from_year_one-bound, day_of_moment-range, second_of_moment-bound, day_of_moment-midnight, second_of_moment-midnight, month_of-range, first-of}
 
 -- ---- timeframes by their places

@@ -1,18 +1,17 @@
 -- The calendar of the definitions is that of civil dates.
-use Rattle.std.proofs.Common.{◌≡◌, ℕ, zero, suc, ◌+◌, ◌-◌, ◌*◌, ◌/◌, ◌%◌, ◌<◌, ◌≤◌, Bool, true, false, [], ◌∷◌, refl, sym, ap, ◌∙◌, arith, ℤ, pos, negsuc, ◌+ℤ◌, ◌-ℤ◌, ◌≤ℤ◌, neg_ℤ, unsigned_abs}
-use Rattle.std.specs.Prelude.{nat_le, nat_lt, count_by, ◌⊎◌, if◌then◌else◌}
-use Rattle.std.specs.Int.{IsInRange}
+use Rattle.std.proofs.Common.{◌≡◌, ℕ, zero, suc, ◌+◌, ◌-◌, ◌%◌, ◌<◌, ◌≤◌, [], ◌∷◌, refl, sym, ◌∙◌, arith, ℤ, pos, negsuc, ◌+ℤ◌, ◌≤ℤ◌, neg_ℤ, unsigned_abs}
+use Rattle.std.specs.Prelude.{nat_le, count_by}
 use Rattle.std.proofs.lemmas.Bool.Decides.{nat_tests}
 use Rattle.std.proofs.lemmas.Int.{by_lt_z}
-use Rattle.jiff_core.specs.Calendar.{day_count, days_of_years, days_of_months, day_of_year, days_in_month, days_from_civil, IsCivilDate, weekday_number}
+use Rattle.jiff_core.specs.Calendar.{day_count, days_of_years, days_of_months, days_from_civil, IsCivilDate, weekday_number}
 use Rattle.jiff_core.proofs.SignedLemmas.{signed_arith}
 use Rattle.jiff_core.proofs.MarchLemmas.{leap_day, leap_day-shift, days_in_year-leap_day, days_of_years-suc, days_of_years-march_days}
 use Rattle.jiff_core.proofs.CalendarLemmas.{days_from_civil-day_count, days_of_months-zero, days_of_months_table, days_of_months_mono, days_in_month_bounds, days_of_months_more, days_of_months_all, days_in_year_bounds, day_of_year_before, day_of_year_bound, day_count-day_of_year, day_count-lt_year, weekday_number-parts}
 use Rattle.jiff_core.specs.Date.{epoch_day}
 use Rattle.jiff_core.specs.declared.civil.date.Date.{Date}
 use Rattle.jiff_core.proofs.DateLemmas.{civil}
-use Rattle.lk_types.specs.Calendar.{from_year_one, from_1970, is_leap, year_of, year_start, month_of, month_start, day_of_month}
-use Rattle.lk_time.proofs.YearLaws.{IsInYear, year_of-IsInYear, only_year}
+use Rattle.lk_types.specs.Calendar.{from_year_one, from_1970, year_of, year_start, month_of, month_start, day_of_month}
+use Rattle.lk_time.proofs.YearLaws.{year_of-IsInYear, only_year}
 
 -- a civil date of a year from 1 on is day n from 0001-01-01
 pub record IsCivilDay (y m d n : ℕ) : Type 0 where

@@ -1,19 +1,13 @@
 -- A timeframe of a timeframe is the timeframe, wherever the one is had from the other.
-use Rattle.std.proofs.Common.{◌≡◌, ℕ, zero, suc, ◌+◌, ◌-◌, ◌*◌, ◌/◌, ◌%◌, ◌<◌, ◌≤◌, Bool, true, false, [], ◌∷◌, refl, sym, ap, ◌∙◌, subst, arith, ℤ, pos, neg_ℤ, ◌+ℤ◌, ◌-ℤ◌, ◌≤ℤ◌}
-use Rattle.std.specs.Prelude.{nat_le, nat_lt, nat_eq, ◌==◌, count_by, ◌⊎◌, if◌then◌else◌}
-use Rattle.std.proofs.lemmas.Bool.{false≢true}
+use Rattle.std.proofs.Common.{◌≡◌, ℕ, ◌<◌, ◌≤◌, [], ◌∷◌, arith, ℤ, pos, neg_ℤ, ◌+ℤ◌, ◌≤ℤ◌}
+use Rattle.std.specs.Prelude.{nat_le}
 use Rattle.std.proofs.lemmas.Bool.Decides.{nat_tests}
 use Rattle.std.proofs.lemmas.List.Sums.{count_by-le-length}
 use Rattle.jiff_core.proofs.SignedLemmas.{signed_arith, int_div_euclid-parts, int_rem_euclid-parts}
-use Rattle.lk_val.specs.declared.value.Value.{Value}
-use Rattle.lk_val.specs.declared.value.Value.TheVariants as value
-use Rattle.lk_types.specs.Calendar.{from_year_one, from_1970, midnight, day_of_moment, second_of_moment, year_of, year_start, month_of, month_start, day_of_month}
-use Rattle.lk_types.specs.Timeframes.{framed, timeframe_of, frame_place, is_same_frame, is_had_from, coarsened, quarter_start, day_at, whole}
-use Rattle.lk_types.specs.declared.schema.Frame.{Frame}
-use Rattle.lk_types.specs.declared.schema.Frame.TheVariants.{Raw, Time, Date, Week, Month, Quarter, Year, HourOfDay, DayOfWeek, DayOfMonth, MonthNum}
-use Rattle.lk_time.specs.FrameValues.{IsInYears, IsDayInYears, IsMomentInYears}
-use Rattle.lk_time.proofs.YearLaws.{year_of-IsInYear, year_of-range}
-use Rattle.lk_time.proofs.CivilLaws.{IsCivilDay, from_year_one-pos, first-IsCivilDay, year_of-IsCivilDay, month_of-IsCivilDay}
+use Rattle.lk_types.specs.Calendar.{from_year_one, from_1970, midnight, day_of_moment, second_of_moment, year_of, year_start, month_of, month_start}
+use Rattle.lk_time.specs.FrameValues.{IsDayInYears, IsMomentInYears}
+use Rattle.lk_time.proofs.YearLaws.{year_of-range}
+use Rattle.lk_time.proofs.CivilLaws.{IsCivilDay, from_year_one-pos, first-IsCivilDay}
 
 -- ---- days and moments in range
 

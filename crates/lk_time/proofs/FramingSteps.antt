@@ -1,9 +1,7 @@
 -- What `frame` computes for days and moments is the timeframe.
-use Rattle.std.proofs.Common.{◌≡◌, ℕ, ◌+◌, ◌*◌, ◌/◌, refl, sym, ap, ◌∙◌, arith, ℤ, pos, ◌+ℤ◌, ◌*ℤ◌, unsigned_abs, ⊎_elim}
+use Rattle.std.proofs.Common.{◌≡◌, refl, sym, ap, ◌∙◌, arith, ℤ, pos, ◌+ℤ◌, ◌*ℤ◌, ⊎_elim}
 use Rattle.std.specs.Prelude.{◌⊎◌}
-use Rattle.std.specs.Int.{int_div_euclid, int_rem_euclid}
 use Rattle.jiff_core.proofs.SignedLemmas.{signed_arith}
-use Rattle.lk_val.specs.declared.value.Value.{Value}
 use Rattle.lk_val.specs.declared.value.Value.TheVariants as value
 use Rattle.lk_types.specs.Calendar.{from_year_one, from_1970, midnight, day_of_moment, second_of_moment}
 use Rattle.lk_types.specs.declared.schema.Frame.{Frame}
@@ -31,11 +29,3 @@ day_of_moment-frame Raw m raw time hour = absurd (raw refl)
 day_of_moment-frame Time m raw time hour = absurd (time refl)
 day_of_moment-frame HourOfDay m raw time hour = absurd (hour refl)
 day_of_moment-frame f m raw time hour = refl
-
-pub is_day_of_moment : (m : ℤ) → int_div_euclid m (pos 86400) ≡ day_of_moment m
-unfolding day_of_moment
-is_day_of_moment m = refl
-
-pub is_second_of_moment : (m : ℤ) → unsigned_abs (int_rem_euclid m (pos 86400)) ≡ second_of_moment m
-unfolding second_of_moment
-is_second_of_moment m = refl

@@ -1,5 +1,5 @@
 -- The number of a civil date among the days of the definitions, which count from 0001-01-01.
-use Rattle.std.specs.Prelude.{ℕ, ◌≡◌, pos, ◌≤ℤ◌}
+use Rattle.std.specs.Prelude.{ℕ, pos, ◌≤ℤ◌}
 use Rattle.jiff_core.specs.Date.{epoch_day}
 use Rattle.jiff_core.specs.declared.civil.date.Date.{Date}
 use Rattle.lk_types.specs.Calendar.{from_year_one}

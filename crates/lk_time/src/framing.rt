@@ -1,4 +1,5 @@
-ghost use Rattle.std.specs.Prelude.{◌≡◌, ◌*◌, ◌<◌, ◌≤ℤ◌, pos, neg_ℤ};
+ghost use Rattle.std.specs.Prelude.{◌≡◌, ◌<◌, ◌/◌};
+ghost use Rattle.lk_types.specs.Calendar.{day_of_moment, second_of_moment};
 ghost use Rattle.lk_types.specs.Timeframes.{whole};
 ghost use Rattle.lk_time.specs.FrameValues.{IsDayInYears, IsMomentInYears, IsInYears, IsInRangeOf, frame_value};
 ghost use Rattle.lk_val.specs.declared.value.Value.TheVariants as value;
@@ -46,9 +47,28 @@ fn frame_moment(moment: i64, f: Frame) -> Value
 {
     match f {
         Frame::Raw | Frame::Time => Value::Moment(moment),
-        Frame::HourOfDay => whole((moment.rem_euclid(86_400) / 3_600) as u8),
-        _ => frame_day(moment.div_euclid(86_400) as i32, f),
+        Frame::HourOfDay => whole(hour_of(moment)),
+        _ => frame_day(day_of(moment), f),
     }
+}
+
+// The day of a moment.
+#[tactic(auto, using(jiff_core::proofs::SignedLemmas::signed_arith), unfolding(lk_types::specs::Calendar::day_of_moment))]
+fn day_of(moment: i64) -> i32
+    requires { IsMomentInYears moment }
+    ensures day { result ≡ day_of_moment moment }
+    ensures in_range { IsDayInYears result }
+{
+    moment.div_euclid(86_400) as i32
+}
+
+// The hour of its day that a moment is in.
+#[tactic(auto, using(jiff_core::proofs::SignedLemmas::signed_arith), unfolding(lk_types::specs::Calendar::second_of_moment))]
+fn hour_of(moment: i64) -> u8
+    ensures hour { result ≡ second_of_moment moment / 3600 }
+    ensures bound { result < 24 }
+{
+    (moment.rem_euclid(86_400) / 3_600) as u8
 }
 
 // A whole number as a value.

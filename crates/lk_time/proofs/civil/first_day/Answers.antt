@@ -1,8 +1,8 @@
-use Rattle.std.proofs.Common.{◌≡◌, ◌∙◌, arith}
+use Rattle.std.proofs.Common.{◌≡◌, arith}
 use Rattle.std.proofs.lemmas.Int.{to_z-of_z}
 use Rattle.jiff_core.proofs.CalendarLemmas.{days_in_month_bounds}
 use Rattle.jiff_core.proofs.SignedLemmas.{signed_arith}
-use Rattle.lk_time.proofs.CivilLaws.{first-date, month_start-bound}
+use Rattle.lk_time.proofs.CivilLaws.{first-date}
 use Rattle.lk_time.proofs.civil.first_day.Goals as goal
 
 pub returns : goal.returns

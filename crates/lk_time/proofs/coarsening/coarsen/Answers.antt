@@ -1,7 +1,6 @@
-use Rattle.std.proofs.Common.{◌≡◌, ◌∙◌, sym, subst, ap}
-use Rattle.lk_types.specs.Timeframes.{is_had_from, is_same_frame}
-use Rattle.lk_time.specs.FrameValues.{IsInYears, IsNoText, frame_value}
-use Rattle.lk_time.proofs.AgainLaws.{same_frame, frame_value-again, frame_value-IsInYears, frame_value-IsNoText}
+use Rattle.std.proofs.Common.{◌∙◌, sym, subst, ap}
+use Rattle.lk_time.specs.FrameValues.{IsInYears, frame_value}
+use Rattle.lk_time.proofs.AgainLaws.{same_frame, frame_value-again, frame_value-IsInYears}
 use Rattle.lk_time.proofs.coarsening.coarsen.Goals as goal
 
 pub returns-then-is_same_frame-clause-value : goal.returns-then-is_same_frame-clause-value

@@ -1,6 +1,5 @@
-use Rattle.std.proofs.Common.{◌≡◌, ap, ◌∙◌, pos, sym, arith}
-use Rattle.jiff_core.proofs.DateLemmas.{civil, epoch_day_range}
-use Rattle.jiff_core.proofs.SignedLemmas.{signed_arith}
+use Rattle.std.proofs.Common.{ap, ◌∙◌, pos}
+use Rattle.jiff_core.proofs.DateLemmas.{civil}
 use Rattle.lk_time.proofs.CivilLaws.{date-IsCivilDay, year_pos, year_of-IsCivilDay, month_of-IsCivilDay, day_of_month-IsCivilDay, year-from_one, weekday-civil, date-from_year_one}
 use Rattle.lk_time.proofs.laws.calendar_is_civil.Goals as goal
 
