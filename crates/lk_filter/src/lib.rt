@@ -2,9 +2,13 @@
 #![tactic(auto)]
 
 mod copying;
+mod laws;
 mod placing;
 mod sameness;
 mod unit;
 
+pub use laws::{
+    placing_leaves_no_relative_date, same_filters_pass_the_same, sameness_is_an_equivalence,
+};
 pub use placing::place;
 pub use sameness::same;
