@@ -12,3 +12,6 @@ pub use laws::{
 };
 pub use placing::place;
 pub use sameness::same;
+
+#[cfg(test)]
+mod tests;
