@@ -1,2 +1,3 @@
 pub mod SamenessLaws
 pub mod PlacingLaws
+pub mod ModelSteps

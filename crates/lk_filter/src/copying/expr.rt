@@ -1,0 +1,78 @@
+// Copies of expressions.
+
+ghost use Rattle.std.specs.Prelude.{◌≡◌, IfOk};
+ghost use Rattle.lk_types.specs.FormulaCode.{formula_of, formulas_of, cases_of};
+
+use super::copy_plain;
+use lk_types::{Args, Branches, Expr, Node};
+use lk_val::NoMemory;
+use std::alloc::Global;
+
+pub(crate) fn copy_expr(alloc: Global, expr: &Expr) -> Result<Expr, NoMemory>
+    ensures { IfOk result (λ copied. copied ≡ expr.now) }
+{
+    Ok(Expr::new(copy_node(alloc, expr.node())?))
+}
+
+#[cycle(expr)]
+fn copy_node(alloc: Global, node: &Node) -> Result<Node, NoMemory>
+    ensures { IfOk result (λ copied. formula_of copied ≡ formula_of node.now) }
+{
+    Ok(match node {
+        Node::Column(part, column) => Node::Column(*part, *column),
+        Node::Literal(value) => Node::Literal(value.copy(alloc)?),
+        Node::Framed(frame, a) => Node::Framed(*frame, boxed(alloc, a)?),
+        Node::Not(a) => Node::Not(boxed(alloc, a)?),
+        Node::And(a, b) => Node::And(boxed(alloc, a)?, boxed(alloc, b)?),
+        Node::Or(a, b) => Node::Or(boxed(alloc, a)?, boxed(alloc, b)?),
+        Node::Compare(op, a, b) => Node::Compare(*op, boxed(alloc, a)?, boxed(alloc, b)?),
+        Node::IsNull(a) => Node::IsNull(boxed(alloc, a)?),
+        Node::In(a, all) => Node::In(boxed(alloc, a)?, boxed_args(alloc, all)?),
+        Node::Between(a, low, high) => {
+            Node::Between(boxed(alloc, a)?, boxed(alloc, low)?, boxed(alloc, high)?)
+        }
+        Node::Like(a, pieces) => Node::Like(boxed(alloc, a)?, copy_plain(alloc, pieces)?),
+        Node::Number(op, a, b) => Node::Number(*op, boxed(alloc, a)?, boxed(alloc, b)?),
+        Node::Negate(a) => Node::Negate(boxed(alloc, a)?),
+        Node::Concat(a, b) => Node::Concat(boxed(alloc, a)?, boxed(alloc, b)?),
+        Node::Case(branches) => Node::Case(boxed_branches(alloc, branches)?),
+        Node::Coalesce(all) => Node::Coalesce(boxed_args(alloc, all)?),
+        Node::NullIf(a, b) => Node::NullIf(boxed(alloc, a)?, boxed(alloc, b)?),
+        Node::Lower(a) => Node::Lower(boxed(alloc, a)?),
+        Node::Upper(a) => Node::Upper(boxed(alloc, a)?),
+    })
+}
+
+#[cycle(expr)]
+fn boxed(alloc: Global, node: &Node) -> Result<Box<Node>, NoMemory>
+    ensures { IfOk result (λ copied. formula_of copied.value ≡ formula_of node.now) }
+{
+    Ok(Box::new(alloc, copy_node(alloc, node)?)?)
+}
+
+#[cycle(expr)]
+fn boxed_args(alloc: Global, all: &Args) -> Result<Box<Args>, NoMemory>
+    ensures { IfOk result (λ copied. formulas_of copied.value ≡ formulas_of all.now) }
+{
+    let copied = match all {
+        Args::End => Args::End,
+        Args::More(a, rest) => Args::More(boxed(alloc, a)?, boxed_args(alloc, rest)?),
+    };
+    Ok(Box::new(alloc, copied)?)
+}
+
+#[cycle(expr)]
+fn boxed_branches(alloc: Global, branches: &Branches) -> Result<Box<Branches>, NoMemory>
+    ensures { IfOk result (λ copied. cases_of copied.value ≡ cases_of branches.now) }
+{
+    let copied = match branches {
+        Branches::End => Branches::End,
+        Branches::Else(a) => Branches::Else(boxed(alloc, a)?),
+        Branches::When(condition, a, rest) => Branches::When(
+            boxed(alloc, condition)?,
+            boxed(alloc, a)?,
+            boxed_branches(alloc, rest)?,
+        ),
+    };
+    Ok(Box::new(alloc, copied)?)
+}
