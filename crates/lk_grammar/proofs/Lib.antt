@@ -6,3 +6,5 @@ pub mod MachineLaws
 pub mod TokenLaws
 pub mod WordLaws
 pub mod NameLaws
+pub mod LiteralLaws
+pub mod NumberLaws

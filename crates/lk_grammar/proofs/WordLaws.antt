@@ -12,11 +12,11 @@ use Rattle.lk_grammar.proofs.TokenLaws.{any_text}
 use Rattle.lk_grammar.proofs.FormLaws.{both, and_both, one_of, or_one, or_other}
 
 -- a text that begins with a space
-record IsWhiteHead (white text : List ℕ) : Type 0 where
-  head : ℕ
-  tail : List ℕ
-  is : text ≡ head ∷ tail
-  space : is_white white head ≡ true
+pub record IsWhiteHead (white text : List ℕ) : Type 0 where
+  pub head : ℕ
+  pub tail : List ℕ
+  pub is : text ≡ head ∷ tail
+  pub space : is_white white head ≡ true
 
 -- one byte that is the letter, in any case
 pub record IsCharText (letter : ℕ) (text : List ℕ) : Type 0 where
@@ -168,7 +168,7 @@ parts_head white (p ∷ parts) each =
     inr (record { head = a.value; tail = concat parts; is = ap (λ z. z ++ concat parts) a.alone; space = a.is })
 
 -- spaces are none or begin with one
-spaces_head : (white text : List ℕ) → IsText (spaces white) text → (text ≡ []) ⊎ IsWhiteHead white text
+pub spaces_head : (white text : List ℕ) → IsText (spaces white) text → (text ≡ []) ⊎ IsWhiteHead white text
 spaces_head white text h =
     elim (parts_head white h.parts h.each) [
       | inl e ↦ inl (h.joined ∙ e)
@@ -176,7 +176,7 @@ spaces_head white text h =
     ]
 
 -- what holds of each byte alone holds of each of them
-white_head : (P : List ℕ → Type 0) (white : List ℕ) (b : ℕ) → AllByRecursion P (each_alone white) → is_white white b ≡ true → P (b ∷ [])
+pub white_head : (P : List ℕ → Type 0) (white : List ℕ) (b : ℕ) → AllByRecursion P (each_alone white) → is_white white b ≡ true → P (b ∷ [])
 white_head P [] b each h = absurd (false≢true h)
 white_head P (w ∷ white) b each h =
     elim (one_of (nat_eq b w) (is_white white b) h) [
@@ -184,11 +184,11 @@ white_head P (w ∷ white) b each h =
       | inr q ↦ white_head P white b each.1 q
     ]
 
-front_of : (P : List ℕ → Type 0) (xs ys : List (List ℕ)) → AllByRecursion P (xs ++ ys) → AllByRecursion P xs
+pub front_of : (P : List ℕ → Type 0) (xs ys : List (List ℕ)) → AllByRecursion P (xs ++ ys) → AllByRecursion P xs
 front_of P [] ys h = tt
 front_of P (x ∷ xs) ys h = (h.0, front_of P xs ys h.1)
 
-back_of : (P : List ℕ → Type 0) (xs ys : List (List ℕ)) → AllByRecursion P (xs ++ ys) → AllByRecursion P ys
+pub back_of : (P : List ℕ → Type 0) (xs ys : List (List ℕ)) → AllByRecursion P (xs ++ ys) → AllByRecursion P ys
 back_of P [] ys h = h
 back_of P (x ∷ xs) ys h = back_of P xs ys h.1
 
@@ -208,14 +208,14 @@ letter_head P letter b c p =
     ] c
 
 -- spelled letters begin with one of their starts
-letters_head : (P : List ℕ → Type 0) (white small front : List ℕ) → is_word white small ≡ true → AllByRecursion P (letter_starts small) → IsText (letters small) front → (b : ℕ) × ((tail : List ℕ) × ((front ≡ b ∷ tail) × P (b ∷ [])))
+pub letters_head : (P : List ℕ → Type 0) (white small front : List ℕ) → is_word white small ≡ true → AllByRecursion P (letter_starts small) → IsText (letters small) front → (b : ℕ) × ((tail : List ℕ) × ((front ≡ b ∷ tail) × P (b ∷ [])))
 letters_head P white [] front w f h = absurd (false≢true w)
 letters_head P white (letter ∷ small) front w f h =
     let c = text_char letter h.front h.first in
     (c.value, (h.back, (h.joined ∙ ap (λ z. z ++ h.back) c.alone, letter_head P letter c.value c.is f.0 f.1)))
 
 -- and with no space
-letters_begun : (white small front : List ℕ) → is_word white small ≡ true → IsText (letters small) front → IsBegun white front
+pub letters_begun : (white small front : List ℕ) → is_word white small ≡ true → IsText (letters small) front → IsBegun white front
 letters_begun white [] front w h = absurd (false≢true w)
 letters_begun white (letter ∷ small) front w h =
     let c = text_char letter h.front h.first in
@@ -261,7 +261,7 @@ module _ {W : Type 0} (letters_of : W → List ℕ) where
       ] refl e
 
   -- a word that is first before a byte is first before a text that begins with it
-  by_head : (table : List W) (word : W) (b : ℕ) (rest : List ℕ) → IsFirst letters_of table word (b ∷ []) → IsFirst letters_of table word (b ∷ rest)
+  pub by_head : (table : List W) (word : W) (b : ℕ) (rest : List ℕ) → IsFirst letters_of table word (b ∷ []) → IsFirst letters_of table word (b ∷ rest)
   by_head [] word b rest f = f
   by_head (w ∷ ws) word b rest f =
       elim f [ inl e ↦ inl e | inr q ↦ inr (subst (λ i. i ≡ true) (apart_by_head (letters_of w) (letters_of word) b rest) q.0, by_head ws word b rest q.1) ]

@@ -6,4 +6,6 @@ pub mod Stacks
 pub mod Steps
 pub mod Words
 pub mod Tokens
+pub mod Literals
+pub mod Numbers
 pub mod Names

@@ -4,7 +4,9 @@
 mod form;
 mod judging;
 mod lexer;
+mod literals;
 mod names;
+mod numbers;
 mod places;
 mod stack;
 mod steps;
@@ -13,7 +15,9 @@ mod word;
 pub use form::Form;
 pub use judging::{judge, judge_nested};
 pub use lexer::{Lexer, read_tokens};
+pub use literals::{Literals, Token, read_words_and_literals};
 pub use names::{name_but, names_are_no_keywords};
+pub use numbers::{Numbers, UnsignedNumbers, number, numbers_are_literals, unsigned_number};
 pub use places::{Machine, machines_find_places};
 pub use word::{Word, first_word, read_words};
 

@@ -4,3 +4,4 @@ pub mod MentionLaws
 pub mod IsolationLaws
 pub mod PairLaws
 pub mod GroupLaws
+pub mod FittingLaws

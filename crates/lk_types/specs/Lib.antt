@@ -6,6 +6,7 @@ pub mod FormulaCode
 pub mod Calculation
 pub mod CalculationCode
 pub mod Expressions
+pub mod Fitting
 pub mod Filters
 pub mod Joins
 pub mod Rows

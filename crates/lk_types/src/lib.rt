@@ -11,6 +11,7 @@ mod filter;
 mod laws;
 mod model;
 mod number;
+mod pattern;
 mod printing;
 mod rows;
 mod schema;
@@ -35,6 +36,7 @@ pub use laws::{
 };
 pub use model::{Datagroup, Derived, Model, Pick, Trigger};
 pub use number::{NumArgs, NumExpr, NumNode};
+pub use pattern::matches;
 pub use printing::print_cell;
 pub use rows::{Joined, Sources, Tables};
 pub use schema::{ColumnDef, Frame, Kind, Schema, TableDef};

@@ -89,3 +89,40 @@ fn a_timeframe_prints_in_its_own_form(rt: HostRuntime) -> Result<(), Fail> {
     }
     Ok(())
 }
+
+#[test]
+fn a_pattern_covers_whole_texts(rt: HostRuntime) -> Result<(), Fail> {
+    let letter = |c: u8| Piece::Byte(c);
+    let cases: [(&[Piece], &str, bool); 12] = [
+        (&[], "", true),
+        (&[], "a", false),
+        (&[Piece::Any], "", true),
+        (&[Piece::One], "", false),
+        (&[Piece::One], "ü", true),
+        (&[Piece::One, Piece::One], "ü", false),
+        (&[letter(b'a')], "a", true),
+        (&[letter(b'a')], "ab", false),
+        (&[letter(b'a'), Piece::Any], "ab", true),
+        (
+            &[
+                Piece::Any,
+                letter(b'a'),
+                Piece::One,
+                Piece::Any,
+                letter(b'b'),
+            ],
+            "aabaüb",
+            true,
+        ),
+        (
+            &[Piece::Any, letter(b'a'), Piece::Any, letter(b'b')],
+            "abba",
+            false,
+        ),
+        (&[Piece::Any, Piece::Any, Piece::One], "", false),
+    ];
+    for (pieces, text, covered) in cases {
+        assert_eq!(rt; matches(pieces, text.as_bytes()), covered);
+    }
+    Ok(())
+}
