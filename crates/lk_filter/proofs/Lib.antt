@@ -1,3 +1,4 @@
 pub mod SamenessLaws
 pub mod PlacingLaws
 pub mod ModelSteps
+pub mod NumberSteps

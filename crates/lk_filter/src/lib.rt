@@ -3,7 +3,10 @@
 
 mod copying;
 mod laws;
+mod meeting;
 mod model;
+mod number;
+mod passing;
 mod placing;
 mod sameness;
 mod unit;
@@ -12,6 +15,7 @@ pub use laws::{
     placing_leaves_no_relative_date, same_filters_pass_the_same, sameness_is_an_equivalence,
 };
 pub use model::place_model;
+pub use passing::{passes, passes_frac};
 pub use placing::place;
 pub use sameness::same;
 

@@ -1,0 +1,10 @@
+use Rattle.std.proofs.Common.{◌∙◌, ap}
+use Rattle.lk_val.specs.Fractions.{frac_cmp}
+use Rattle.lk_filter.proofs.NumberSteps.{cmp-reduced}
+use Rattle.lk_filter.proofs.number.FracExact.cmp_num.Goals as goal
+
+pub returns : goal.returns
+returns c =
+    c.cmp.ensures
+    ∙ ap (frac_cmp c.args.self.now) c.fraction_of.ensures
+    ∙ cmp-reduced c.args.self.now c.args.num.0
