@@ -1,3 +1,6 @@
+mod model;
+mod passing;
+
 use super::*;
 use lk_types::{Days, Edge, End, Filter, Period, Test};
 use lk_val::{Items, NoMemory, Num};
