@@ -1,5 +1,5 @@
 -- A placed filter has no relative dates, and one without relative dates is placed as it is.
-use Rattle.std.proofs.Common.{◌≡◌, ℕ, Bool, true, false, ◌&&◌, ◌||◌, List, [], ◌∷◌, ℤ, map, refl, sym, ap, ◌∙◌}
+use Rattle.std.proofs.Common.{◌≡◌, ℕ, Bool, true, false, ◌||◌, List, [], ◌∷◌, ℤ, map, refl, sym, ap, ◌∙◌}
 use Rattle.std.specs.Prelude.{not}
 use Rattle.std.specs.List.{list_any}
 use Rattle.std.specs.Cmp.Derive.{both_true}
@@ -8,6 +8,7 @@ use Rattle.lk_types.specs.Filters.{placed, placed_test, today_at}
 use Rattle.lk_types.specs.declared.filter.Filter.{Filter}
 use Rattle.lk_types.specs.declared.filter.Test.{Test}
 use Rattle.lk_types.specs.declared.filter.Test.TheVariants as test
+use Rattle.lk_filter.proofs.Steps.{both}
 use Rattle.lk_filter.specs.Placing.{is_relative, is_placed}
 
 test-placed : (n : ℕ) (t : Test) → is_relative (placed_test n t) ≡ false
@@ -53,10 +54,6 @@ tests-kept n (t ∷ ts) e = by (is_relative t) refl (tests-kept n ts)
     by : (b : Bool) → is_relative t ≡ b → (not (list_any is_relative ts) ≡ true → map (placed_test n) ts ≡ ts) → map (placed_test n) (t ∷ ts) ≡ t ∷ ts
     by true r further = absurd (false≢true (ap (λ b. not (b || list_any is_relative ts)) (sym r) ∙ e))
     by false r further = λ i. test-kept n t r i ∷ further (ap (λ b. not (b || list_any is_relative ts)) (sym r) ∙ e) i
-
-both : (a b : Bool) → (a && b) ≡ true → (a ≡ true) × (b ≡ true)
-both true b e = (refl, e)
-both false b e = absurd (false≢true e)
 
 pub placed-kept : (now : ℤ) (f : Filter) → is_placed f ≡ true → placed now f ≡ record f { relative = false }
 placed-kept now f e =

@@ -18,11 +18,8 @@ use Rattle.lk_types.specs.declared.filter.Filter.{Filter}
 use Rattle.lk_types.specs.declared.filter.Edge.TheVariants.{Lowest, At, Highest}
 use Rattle.lk_types.specs.declared.filter.Test.{Test}
 use Rattle.lk_types.specs.declared.filter.Test.TheVariants as test
+use Rattle.lk_filter.proofs.Steps.{both}
 use Rattle.lk_filter.specs.Placing.{is_relative, is_placed}
-
-both : (a b : Bool) → (a && b) ≡ true → (a ≡ true) × (b ≡ true)
-both true b e = (refl, e)
-both false b e = absurd (false≢true e)
 
 -- ---- what is the same is equal
 

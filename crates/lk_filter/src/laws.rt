@@ -1,18 +1,47 @@
-// Laws of placing and of sameness. Each is a function that computes nothing: its clauses are the law.
+// Laws of relative dates and of sameness. Each is a function that computes nothing: its clauses are the law.
 
-ghost use Rattle.std.specs.Prelude.{◌≡◌, ℤ, Option, true, false};
+ghost use Rattle.std.specs.Prelude.{◌≡◌, ◌+◌, ◌<◌, ◌&&◌, ◌==◌, nat_le, nat_lt, ℕ, ℤ, Option, true, false};
 ghost use Rattle.lk_val.specs.Fractions.{Fraction};
 ghost use Rattle.lk_val.specs.declared.value.Value.{Value};
-ghost use Rattle.lk_types.specs.Filters.{placed, passes, passes_frac, is_same_test, is_same_filter};
+ghost use Rattle.lk_types.specs.Calendar.{from_1970};
+ghost use Rattle.lk_types.specs.Filters.{placed, placed_test, passes, passes_frac, day_meets, is_same_test, is_same_filter, unit_of, unit_start};
 ghost use Rattle.lk_types.specs.declared.filter.Filter.{Filter};
+ghost use Rattle.lk_types.specs.declared.filter.Period.{Period};
 ghost use Rattle.lk_types.specs.declared.filter.Test.{Test};
-ghost use Rattle.lk_filter.specs.Placing.{is_relative, is_placed};
+ghost use Rattle.lk_types.specs.declared.filter.Test.TheVariants as test;
+ghost use Rattle.lk_filter.specs.Placing.{IsInItsUnit, IsWithinYears, is_relative, is_placed};
 
 /// A placed filter has no relative date, and a filter without relative dates keeps its tests. A law: it computes
 /// nothing.
 pub fn placing_leaves_no_relative_date()
     ensures placed { (now : ℤ) (f : Filter) → is_placed (placed now f) ≡ true }
     ensures kept { (now : ℤ) (f : Filter) → is_placed f ≡ true → placed now f ≡ record f { relative = false } }
+{}
+
+/// The units of a period divide the days: each day lies in the unit that has its number, and each unit begins before
+/// the next. Days and units count from the first of year 1. A law: it computes nothing.
+pub fn units_divide_the_days()
+    ensures lies { (p : Period) (day : ℕ) → IsInItsUnit p day }
+    ensures grow { (p : Period) (unit : ℕ) → unit_start p unit < unit_start p (unit + 1) }
+{}
+
+/// A day of the years 1 to 9999 meets a relative date exactly where its unit is the one that is meant: today's, the
+/// one before it, one of the n that end with today's, or the one that is n before it. Days count from the first of
+/// year 1. A law: it computes nothing. (Looker, filter expressions: date)
+pub fn relative_dates_mean_units()
+    ensures today { (today day : ℕ) → IsWithinYears day
+        → day_meets (from_1970 day) (placed_test today test.Today) ≡ (day == today) }
+    ensures yesterday { (today day : ℕ) → IsWithinYears day
+        → day_meets (from_1970 day) (placed_test today test.Yesterday) ≡ (day + 1 == today) }
+    ensures this { (p : Period) (today day : ℕ) → IsWithinYears day
+        → day_meets (from_1970 day) (placed_test today (test.This p)) ≡ (unit_of p day == unit_of p today) }
+    ensures last { (p : Period) (today day : ℕ) → IsWithinYears day
+        → day_meets (from_1970 day) (placed_test today (test.Last p)) ≡ (unit_of p day + 1 == unit_of p today) }
+    ensures recent { (n : ℕ) (p : Period) (today day : ℕ) → IsWithinYears day
+        → day_meets (from_1970 day) (placed_test today (test.Recent n p))
+        ≡ (nat_le (unit_of p day) (unit_of p today) && nat_lt (unit_of p today) (unit_of p day + n)) }
+    ensures ago { (n : ℕ) (p : Period) (today day : ℕ) → IsWithinYears day
+        → day_meets (from_1970 day) (placed_test today (test.Ago n p)) ≡ (unit_of p day + n == unit_of p today) }
 {}
 
 /// Sameness is an equivalence of placed filters, and two of their tests are the same exactly where they are equal.

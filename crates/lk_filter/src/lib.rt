@@ -12,7 +12,8 @@ mod sameness;
 mod unit;
 
 pub use laws::{
-    placing_leaves_no_relative_date, same_filters_pass_the_same, sameness_is_an_equivalence,
+    placing_leaves_no_relative_date, relative_dates_mean_units, same_filters_pass_the_same,
+    sameness_is_an_equivalence, units_divide_the_days,
 };
 pub use model::place_model;
 pub use passing::{passes, passes_frac};
