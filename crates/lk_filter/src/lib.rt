@@ -1,11 +1,11 @@
 //! Filter expressions: which values pass a filter, and its relative dates at a moment.
 #![tactic(auto)]
 
+mod comparing;
 mod copying;
 mod laws;
 mod meeting;
 mod model;
-mod number;
 mod passing;
 mod placing;
 mod sameness;

@@ -3,7 +3,7 @@
 ghost use Rattle.std.specs.Prelude.{◌≡◌};
 ghost use Rattle.lk_types.specs.Filters.{meets, null_meets, text_meets, truth_meets, day_meets};
 
-use crate::number::number_meets;
+use crate::comparing::number_meets;
 use lk_types::{Test, day_of_moment, matches};
 use lk_val::Value;
 

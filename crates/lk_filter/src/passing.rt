@@ -2,8 +2,8 @@ ghost use Rattle.std.specs.Prelude.{◌≡◌, Bool, true, not};
 ghost use Rattle.std.specs.List.{list_any};
 ghost use Rattle.lk_types.specs.Filters.{passes, passes_by, passes_frac, meets, number_meets};
 
+use crate::comparing::number_meets;
 use crate::meeting::meets;
-use crate::number::number_meets;
 use lk_types::{Filter, Test};
 use lk_val::{Frac, Value};
 

@@ -1,7 +1,7 @@
 use Rattle.std.proofs.Common.{◌∙◌, ap}
 use Rattle.lk_val.specs.Fractions.{frac_cmp}
-use Rattle.lk_filter.proofs.NumberSteps.{cmp-reduced}
-use Rattle.lk_filter.proofs.number.FracExact.cmp_num.Goals as goal
+use Rattle.lk_filter.proofs.ComparingSteps.{cmp-reduced}
+use Rattle.lk_filter.proofs.comparing.FracExact.cmp_num.Goals as goal
 
 pub returns : goal.returns
 returns c =
