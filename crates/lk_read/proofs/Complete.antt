@@ -24,13 +24,13 @@ use Rattle.lk_read.specs.Reading.{Step, read_lines, read_from, then_read, start_
 use Rattle.lk_read.proofs.Rests.{Emits, AtComma, BehindEntry, AtStart, AtBehind, BehindString, BehindColon, At, AtGap, RestOf, BehindComment, AllLines, IsRest}
 use Rattle.lk_read.proofs.Steps.{On, on_true, on_false, differs, not_both, not_both_right, both_true, either_false, BeginsPiece, word_begins, name_is_word, begins_at, completes_parts, whole_at, no_semicolon, whole_is, on_next, unescaped_parts}
 
-head_of : (b c : ℕ) (t rest : List ℕ) → b ∷ t ≡ c ∷ rest → b ≡ c
+pub head_of : (b c : ℕ) (t rest : List ℕ) → b ∷ t ≡ c ∷ rest → b ≡ c
 head_of b c t rest e = cc
 
-tail_of : (b c : ℕ) (t rest : List ℕ) → b ∷ t ≡ c ∷ rest → rest ≡ t
+pub tail_of : (b c : ℕ) (t rest : List ℕ) → b ∷ t ≡ c ∷ rest → rest ≡ t
 tail_of b c t rest e = cc
 
-same_place : (p place n size : ℕ) → p + n ≡ size → place + n ≡ size → p ≡ place
+pub same_place : (p place n size : ℕ) → p + n ≡ size → place + n ≡ size → p ≡ place
 same_place p place n size h g = omega arith
 
 module _ (most size : ℕ) (t : List ℕ) (all : List Line) where
@@ -223,7 +223,7 @@ module _ (most size : ℕ) (t : List ℕ) (all : List Line) where
   lines_begin depth b (block name p title ∷ lines) w = inl w.2.3.2.0
   lines_begin depth b (closing ∷ lines) w = inr (head_of b 125 t w.0 w.2.1)
 
-  not_brace : (b : ℕ) → (is_name_byte b ≡ true) ⊎ (b ≡ 125) → (b == 123) ≡ false
+  pub not_brace : (b : ℕ) → (is_name_byte b ≡ true) ⊎ (b ≡ 125) → (b == 123) ≡ false
   not_brace b (inl h) = differs is_name_byte b 123 h refl
   not_brace b (inr e) = ap (λ x. x == 123) e
 
@@ -231,7 +231,7 @@ module _ (most size : ℕ) (t : List ℕ) (all : List Line) where
   comma_begins depth b param open_list more (es, rest, inl (none, begins), emits) = inl (head_of b 93 t rest begins)
   comma_begins depth b param open_list more (es, rest, inr (comma, start, begins, gap, are), emits) = inr (head_of b 44 t comma begins)
 
-  not_colon : (b : ℕ) → (b ≡ 93) ⊎ (b ≡ 44) → (b == 58) ≡ false
+  pub not_colon : (b : ℕ) → (b ≡ 93) ⊎ (b ≡ 44) → (b == 58) ≡ false
   not_colon b (inl e) = ap (λ x. x == 58) e
   not_colon b (inr e) = ap (λ x. x == 58) e
 
@@ -257,34 +257,34 @@ module _ (most size : ℕ) (t : List ℕ) (all : List Line) where
   at_125 : BeginsPiece 125
   at_125 = (refl, refl)
 
-  line_begins : (b : ℕ) → (is_name_byte b ≡ true) ⊎ (b ≡ 125) → BeginsPiece b
+  pub line_begins : (b : ℕ) → (is_name_byte b ≡ true) ⊎ (b ≡ 125) → BeginsPiece b
   line_begins b (inl h) = word_begins b (name_is_word b h)
   line_begins b (inr e) = begins_at b 125 e (refl, refl)
 
-  comma_piece : (b : ℕ) → (b ≡ 93) ⊎ (b ≡ 44) → BeginsPiece b
+  pub comma_piece : (b : ℕ) → (b ≡ 93) ⊎ (b ≡ 44) → BeginsPiece b
   comma_piece b (inl e) = begins_at b 93 e (refl, refl)
   comma_piece b (inr e) = begins_at b 44 e (refl, refl)
 
-  value_begins : (depth b : ℕ) (value : Plain) (rest : List ℕ) → IsValue most depth (b ∷ t) value rest → BeginsPiece b
+  pub value_begins : (depth b : ℕ) (value : Plain) (rest : List ℕ) → IsValue most depth (b ∷ t) value rest → BeginsPiece b
   value_begins depth b (word w) rest is = word_begins b is.0
   value_begins depth b (quoted q) rest is = begins_at b 34 (head_of b 34 t is.0 is.1) (refl, refl)
   value_begins depth b (list es) rest is = begins_at b 91 (head_of b 91 t is.1 is.3) (refl, refl)
   value_begins depth b (code c) rest is = absurd is
 
-  opening_begins : (b : ℕ) (title : Option (List ℕ)) (rest : List ℕ) → IsOpening (b ∷ t) title rest → BeginsPiece b
+  pub opening_begins : (b : ℕ) (title : Option (List ℕ)) (rest : List ℕ) → IsOpening (b ∷ t) title rest → BeginsPiece b
   opening_begins b None rest is = begins_at b 123 (head_of b 123 t rest is) (refl, refl)
   opening_begins b (Some title) rest is = word_begins b is.1.0
 
-  entry_begins : (b : ℕ) (e : Entry) (rest : List ℕ) → IsEntry (b ∷ t) e rest → BeginsPiece b
+  pub entry_begins : (b : ℕ) (e : Entry) (rest : List ℕ) → IsEntry (b ∷ t) e rest → BeginsPiece b
   entry_begins b (entry.Word w) rest is = word_begins b is.0
   entry_begins b (entry.Quoted q) rest is = begins_at b 34 (head_of b 34 t is.0 is.1) (refl, refl)
   entry_begins b (entry.Pair key v) rest is = word_begins b is.3.0
 
-  entries_begin : (b : ℕ) (es : List Entry) (rest : List ℕ) → AreEntries (b ∷ t) es rest → BeginsPiece b
+  pub entries_begin : (b : ℕ) (es : List Entry) (rest : List ℕ) → AreEntries (b ∷ t) es rest → BeginsPiece b
   entries_begin b [] rest is = begins_at b 93 (head_of b 93 t rest is) (refl, refl)
   entries_begin b (e ∷ es) rest is = entry_begins b e is.0 is.2
 
-  scalar_begins : (b : ℕ) (scalar rest : List ℕ) → IsScalar (b ∷ t) scalar rest → BeginsPiece b
+  pub scalar_begins : (b : ℕ) (scalar rest : List ℕ) → IsScalar (b ∷ t) scalar rest → BeginsPiece b
   scalar_begins b scalar rest (inl is) = word_begins b is.0
   scalar_begins b scalar rest (inr is) = begins_at b 34 (head_of b 34 t is.0 is.1) (refl, refl)
 
@@ -367,7 +367,7 @@ module _ (most size : ℕ) (t : List ℕ) (all : List Line) where
   string_ends built param (slot.Entry open_list) text more e w = (more, e, w)
   string_ends built param (slot.Pair open_list key) text more e w = (more, e, w)
 
-  escape_whole : (u : Utf8) (text string rest : List ℕ) → IsEscape text string rest → completes u string ≡ true → is_whole u ≡ true
+  pub escape_whole : (u : Utf8) (text string rest : List ℕ) → IsEscape text string rest → completes u string ≡ true → is_whole u ≡ true
   escape_whole u [] string rest w h = absurd w
   escape_whole u (b ∷ text) string rest w h = (unescaped_parts u b w.0 (subst (λ x. completes u x ≡ true) w.1 h)).0
 
@@ -417,7 +417,7 @@ module _ (most size : ℕ) (t : List ℕ) (all : List Line) where
 
   -- ---- code
 
-  semicolon_whole : (u : Utf8) (text kept rest : List ℕ) → IsSemicolon text kept rest → completes u kept ≡ true → is_whole u ≡ true
+  pub semicolon_whole : (u : Utf8) (text kept rest : List ℕ) → IsSemicolon text kept rest → completes u kept ≡ true → is_whole u ≡ true
   semicolon_whole u [] kept rest w h = absurd w
   semicolon_whole u (b ∷ text) kept rest (inl (is, none, same)) h = subst (λ x. completes u x ≡ true) none h
   semicolon_whole u (b ∷ text) kept rest (inr (isnt, others, f, is)) h = whole_at u 59 (b ∷ others) no_semicolon (subst (λ x. completes u x ≡ true) f h)
@@ -492,7 +492,7 @@ module _ (most size : ℕ) (t : List ℕ) (all : List Line) where
 -- ---- the end of the text
 
 module _ (most size : ℕ) where
-  no_line : (depth : ℕ) (line : Line) (rest : List ℕ) → IsLine most size depth [] line rest → ⊥
+  pub no_line : (depth : ℕ) (line : Line) (rest : List ℕ) → IsLine most size depth [] line rest → ⊥
   no_line depth (plain name p value) rest w = w.1.2
   no_line depth (block name p title) rest w = w.3.2
   no_line depth closing rest w = let never = w.1 in cc
@@ -505,26 +505,26 @@ module _ (most size : ℕ) where
   no_lines depth [] w = (w.0, refl)
   no_lines depth (line ∷ more) w = absurd (no_line depth line w.0 w.2)
 
-  no_value : (depth : ℕ) (value : Plain) (rest : List ℕ) → IsValue most depth [] value rest → ⊥
+  pub no_value : (depth : ℕ) (value : Plain) (rest : List ℕ) → IsValue most depth [] value rest → ⊥
   no_value depth (word w) rest is = is
   no_value depth (quoted q) rest is = let never = is.1 in cc
   no_value depth (list es) rest is = let never = is.3 in cc
   no_value depth (code c) rest is = is
 
-  no_opening : (title : Option (List ℕ)) (rest : List ℕ) → IsOpening [] title rest → ⊥
+  pub no_opening : (title : Option (List ℕ)) (rest : List ℕ) → IsOpening [] title rest → ⊥
   no_opening None rest is = cc
   no_opening (Some title) rest is = is.1
 
-  no_entry : (e : Entry) (rest : List ℕ) → IsEntry [] e rest → ⊥
+  pub no_entry : (e : Entry) (rest : List ℕ) → IsEntry [] e rest → ⊥
   no_entry (entry.Word w) rest is = is
   no_entry (entry.Quoted q) rest is = let never = is.1 in cc
   no_entry (entry.Pair key v) rest is = is.3
 
-  no_entries : (es : List Entry) (rest : List ℕ) → AreEntries [] es rest → ⊥
+  pub no_entries : (es : List Entry) (rest : List ℕ) → AreEntries [] es rest → ⊥
   no_entries [] rest is = cc
   no_entries (e ∷ es) rest is = no_entry e is.0 is.2
 
-  no_scalar : (scalar rest : List ℕ) → IsScalar [] scalar rest → ⊥
+  pub no_scalar : (scalar rest : List ℕ) → IsScalar [] scalar rest → ⊥
   no_scalar scalar rest (inl is) = is
   no_scalar scalar rest (inr is) = let never = is.1 in cc
 
