@@ -2,8 +2,8 @@
 use Rattle.std.proofs.Common.{◌≡◌, ℕ, nat_lt, pred, Bool, true, false, not, ◌&&◌, ◌==◌, ◌+◌, ◌<◌, List, [], ◌∷◌, ◌++◌, ◌⊎◌, inl, inr, Option, Some, None, length, Result, Ok, Err, refl, sym, ap, ◌∙◌, subst, arith, append_assoc}
 use Rattle.std.proofs.lemmas.Bool.{eq-eqb, lt-ltb}
 use Rattle.std.proofs.lemmas.List.{append-nil}
-use Rattle.lk_read.specs.declared.tree.Entry.{Entry}
-use Rattle.lk_read.specs.declared.tree.Entry.TheVariants as entry
+use Rattle.lk_read.specs.Entry.{Entry}
+use Rattle.lk_read.specs.Entry as entry
 use Rattle.lk_read.specs.declared.read_fault.ReadFault.{ReadFault}
 use Rattle.lk_read.specs.declared.phase.Param.{Param}
 use Rattle.lk_read.specs.declared.phase.OpenList.{OpenList}
@@ -187,12 +187,13 @@ module _ (most size : ℕ) (t : List ℕ) (all : List Line) where
 
   -- an entry begins
   entry_on : (built : Built) (param : Param) (open_list : OpenList) (place b : ℕ) (more : List Line) (first : Entry) (es : List Entry) (behind rest : List ℕ) → all ≡ built.lines ++ more → IsEntry (b ∷ t) first behind → BehindEntry most size (length built.open_braces) param (with_entry open_list first) behind more → On Rest (start_at most built param (slot.Entry open_list) place b)
-  entry_on built param open_list place b more (entry.Word w) es behind rest e is follows =
+  entry_on built param open_list place b more (entry.word w) es behind rest e is follows =
       word_on built param (slot.Entry open_list) place b more w behind e is (follows.0, follows.1, inl follows.2)
-  entry_on built param open_list place b more (entry.Quoted q) es behind rest e is follows = string_on built param (slot.Entry open_list) place b more q behind e is follows
-  entry_on built param open_list place b more (entry.Pair key v) es behind rest e (after_key, colon, start, is, keyed, gap, gap2, scalar) follows =
+  entry_on built param open_list place b more (entry.quoted q) es behind rest e is follows = string_on built param (slot.Entry open_list) place b more q behind e is follows
+  entry_on built param open_list place b more (entry.pair key v) es behind rest e (after_key, colon, start, is, keyed, gap, gap2, scalar) follows =
       word_on built param (slot.Entry open_list) place b more key after_key e is
       (58 ∷ colon, gap, inr (colon, start, v, behind, keyed, refl, gap2, scalar, follows))
+  entry_on built param open_list place b more (entry.other size) es behind rest e is follows = absurd is
 
   entries_on : (built : Built) (param : Param) (open_list : OpenList) (place b : ℕ) (more : List Line) (es : List Entry) (rest : List ℕ) → all ≡ built.lines ++ more → AreEntries (b ∷ t) es rest → Emits most size (length built.open_braces) (plain param.name param.place (list (open_list.entries ++ es))) rest more → On Rest (start_at most built param (slot.Entry open_list) place b)
   entries_on built param open_list place b more [] rest e begins emits =
@@ -205,7 +206,7 @@ module _ (most size : ℕ) (t : List ℕ) (all : List Line) where
       entry_on built param open_list place b more first es behind rest e is
       (next, gap, (es, rest, follows, unlisted (length built.open_braces) param open_list first es rest more emits))
 
-  scalar_on : (built : Built) (param : Param) (open_list : OpenList) (key : List ℕ) (place b : ℕ) (more : List Line) (scalar rest : List ℕ) → all ≡ built.lines ++ more → IsScalar (b ∷ t) scalar rest → BehindEntry most size (length built.open_braces) param (with_entry open_list (entry.Pair key scalar)) rest more → On Rest (start_at most built param (slot.Pair open_list key) place b)
+  scalar_on : (built : Built) (param : Param) (open_list : OpenList) (key : List ℕ) (place b : ℕ) (more : List Line) (scalar rest : List ℕ) → all ≡ built.lines ++ more → IsScalar (b ∷ t) scalar rest → BehindEntry most size (length built.open_braces) param (with_entry open_list (entry.pair key scalar)) rest more → On Rest (start_at most built param (slot.Pair open_list key) place b)
   scalar_on built param open_list key place b more scalar rest e (inl is) follows = word_on built param (slot.Pair open_list key) place b more scalar rest e is follows
   scalar_on built param open_list key place b more scalar rest e (inr is) follows = string_on built param (slot.Pair open_list key) place b more scalar rest e is follows
 
@@ -245,12 +246,12 @@ module _ (most size : ℕ) (t : List ℕ) (all : List Line) where
       (subst (λ x. Emits most size (length built.open_braces) (block param.name param.place (Some text)) x more) (tail_of b 123 t rest begins) emits))
   behind_on built param (slot.Entry open_list) text place b at (more, e, inl follows) =
       on_false Rest (b == 58 && is_key text) _ _
-      (not_both (b == 58) (is_key text) (not_colon b (comma_begins (length built.open_braces) b param (with_entry open_list (entry.Word text)) more follows)))
-      (comma_on built param (with_entry open_list (entry.Word text)) place b (more, e, follows))
+      (not_both (b == 58) (is_key text) (not_colon b (comma_begins (length built.open_braces) b param (with_entry open_list (entry.word text)) more follows)))
+      (comma_on built param (with_entry open_list (entry.word text)) place b (more, e, follows))
   behind_on built param (slot.Entry open_list) text place b at (more, e, inr (colon, first, scalar, rest, keyed, begins, gap, is, follows)) =
       on_true Rest (b == 58 && is_key text) _ _ (both_true (b == 58) (is_key text) (eq-eqb b 58 (head_of b 58 t colon begins)) keyed)
       (more, e, (first, subst (λ x. IsGap x first) (tail_of b 58 t colon begins) gap, (scalar, rest, is, follows)))
-  behind_on built param (slot.Pair open_list key) text place b at w = comma_on built param (with_entry open_list (entry.Pair key text)) place b w
+  behind_on built param (slot.Pair open_list key) text place b at w = comma_on built param (with_entry open_list (entry.pair key text)) place b w
 
   -- ---- white space and comments
 
@@ -276,9 +277,10 @@ module _ (most size : ℕ) (t : List ℕ) (all : List Line) where
   opening_begins b (Some title) rest is = word_begins b is.1.0
 
   pub entry_begins : (b : ℕ) (e : Entry) (rest : List ℕ) → IsEntry (b ∷ t) e rest → BeginsPiece b
-  entry_begins b (entry.Word w) rest is = word_begins b is.0
-  entry_begins b (entry.Quoted q) rest is = begins_at b 34 (head_of b 34 t is.0 is.1) (refl, refl)
-  entry_begins b (entry.Pair key v) rest is = word_begins b is.3.0
+  entry_begins b (entry.word w) rest is = word_begins b is.0
+  entry_begins b (entry.quoted q) rest is = begins_at b 34 (head_of b 34 t is.0 is.1) (refl, refl)
+  entry_begins b (entry.pair key v) rest is = word_begins b is.3.0
+  entry_begins b (entry.other size) rest is = absurd is
 
   pub entries_begin : (b : ℕ) (es : List Entry) (rest : List ℕ) → AreEntries (b ∷ t) es rest → BeginsPiece b
   entries_begin b [] rest is = begins_at b 93 (head_of b 93 t rest is) (refl, refl)
@@ -297,9 +299,9 @@ module _ (most size : ℕ) (t : List ℕ) (all : List Line) where
   behind_begins : (depth b : ℕ) (param : Param) (spot : Slot) (text : List ℕ) (more : List Line) → AtBehind most size depth param spot text (b ∷ t) more → BeginsPiece b
   behind_begins depth b param slot.Value text more (inl (lines, f, are)) = line_begins b (lines_begin depth b lines are)
   behind_begins depth b param slot.Value text more (inr w) = begins_at b 123 (head_of b 123 t w.0 w.3) (refl, refl)
-  behind_begins depth b param (slot.Entry open_list) text more (inl w) = comma_piece b (comma_begins depth b param (with_entry open_list (entry.Word text)) more w)
+  behind_begins depth b param (slot.Entry open_list) text more (inl w) = comma_piece b (comma_begins depth b param (with_entry open_list (entry.word text)) more w)
   behind_begins depth b param (slot.Entry open_list) text more (inr w) = begins_at b 58 (head_of b 58 t w.0 w.5) (refl, refl)
-  behind_begins depth b param (slot.Pair open_list key) text more w = comma_piece b (comma_begins depth b param (with_entry open_list (entry.Pair key text)) more w)
+  behind_begins depth b param (slot.Pair open_list key) text more w = comma_piece b (comma_begins depth b param (with_entry open_list (entry.pair key text)) more w)
 
   at_begins : (depth b : ℕ) (now : Phase) (more : List Line) → At most size depth now (b ∷ t) more → BeginsPiece b
   at_begins depth b phase.Between more w = line_begins b (lines_begin depth b more w)
@@ -516,9 +518,10 @@ module _ (most size : ℕ) where
   no_opening (Some title) rest is = is.1
 
   pub no_entry : (e : Entry) (rest : List ℕ) → IsEntry [] e rest → ⊥
-  no_entry (entry.Word w) rest is = is
-  no_entry (entry.Quoted q) rest is = let never = is.1 in cc
-  no_entry (entry.Pair key v) rest is = is.3
+  no_entry (entry.word w) rest is = is
+  no_entry (entry.quoted q) rest is = let never = is.1 in cc
+  no_entry (entry.pair key v) rest is = is.3
+  no_entry (entry.other size) rest is = is
 
   pub no_entries : (es : List Entry) (rest : List ℕ) → AreEntries [] es rest → ⊥
   no_entries [] rest is = cc
@@ -545,9 +548,9 @@ module _ (most size : ℕ) where
       ∙ ap (λ x. Ok (built.lines ++ plain param.name param.place (word text) ∷ x)) (sym w.1)
       ∙ ap (λ x. Ok (built.lines ++ x)) (sym f) ∙ ap Ok (sym e)
   word_ends built param slot.Value text all more e (inr w) = let never = w.3 in cc
-  word_ends built param (slot.Entry open_list) text all more e (inl w) = absurd (no_comma (length built.open_braces) param (with_entry open_list (entry.Word text)) more w)
+  word_ends built param (slot.Entry open_list) text all more e (inl w) = absurd (no_comma (length built.open_braces) param (with_entry open_list (entry.word text)) more w)
   word_ends built param (slot.Entry open_list) text all more e (inr w) = let never = w.5 in cc
-  word_ends built param (slot.Pair open_list key) text all more e w = absurd (no_comma (length built.open_braces) param (with_entry open_list (entry.Pair key text)) more w)
+  word_ends built param (slot.Pair open_list key) text all more e w = absurd (no_comma (length built.open_braces) param (with_entry open_list (entry.pair key text)) more w)
 
   ended : (built : Built) (now : Phase) (place : ℕ) (all : List Line) → AllLines built (λ depth more. RestOf most size depth now [] more) all → end_at built now place ≡ Ok all
   ended built phase.Between place all (more, e, (start, none, are)) =

@@ -2,8 +2,8 @@
 use Rattle.std.proofs.Common.{◌≡◌, ℕ, suc, nat_lt, Bool, true, false, not, ◌&&◌, ◌==◌, cond, ◌+◌, ◌<◌, List, [], ◌∷◌, ◌++◌, ◌⊎◌, inl, inr, Option, Some, None, length, Ok, Err, refl, sym, ap, ◌∙◌, subst, arith, append_assoc}
 use Rattle.std.proofs.lemmas.Bool.{eq-eqb, eqb-true}
 use Rattle.std.proofs.lemmas.List.{append-nil}
-use Rattle.lk_read.specs.declared.tree.Entry.{Entry}
-use Rattle.lk_read.specs.declared.tree.Entry.TheVariants as entry
+use Rattle.lk_read.specs.Entry.{Entry}
+use Rattle.lk_read.specs.Entry as entry
 use Rattle.lk_read.specs.declared.read_fault.ReadFault.{ReadFault}
 use Rattle.lk_read.specs.declared.read_fault.ReadFault.TheVariants as fault
 use Rattle.lk_read.specs.declared.phase.Param.{Param}
@@ -215,12 +215,13 @@ module _ (most size : ℕ) (why : ReadFault) (t : List ℕ) where
 
   -- an entry begins
   entry_on : (built : Built) (param : Param) (open_list : OpenList) (place b : ℕ) (e : Entry) (behind : List ℕ) → IsEntry (b ∷ t) e behind → CutBehindEntry most size why built.open_braces open_list.bracket behind → Then Rest (start_at most built param (slot.Entry open_list) place b)
-  entry_on built param open_list place b (entry.Word w) behind is follows =
+  entry_on built param open_list place b (entry.word w) behind is follows =
       word_on built param (slot.Entry open_list) place b w behind is (follows.0, follows.1, inl follows.2)
-  entry_on built param open_list place b (entry.Quoted q) behind is follows = string_on built param (slot.Entry open_list) place b q behind is follows
-  entry_on built param open_list place b (entry.Pair key v) behind (after_key, colon, start, is, keyed, gap, gap2, scalar) follows =
+  entry_on built param open_list place b (entry.quoted q) behind is follows = string_on built param (slot.Entry open_list) place b q behind is follows
+  entry_on built param open_list place b (entry.pair key v) behind (after_key, colon, start, is, keyed, gap, gap2, scalar) follows =
       word_on built param (slot.Entry open_list) place b key after_key is
       (58 ∷ colon, gap, inr (colon, start, keyed, refl, gap2, inl (v, behind, scalar, follows)))
+  entry_on built param open_list place b (entry.other size) behind is follows = absurd is
 
   entries_on : (built : Built) (param : Param) (open_list : OpenList) (place b : ℕ) (es : List Entry) (rest : List ℕ) → AreEntries (b ∷ t) es rest → After most size why built.open_braces rest → Then Rest (start_at most built param (slot.Entry open_list) place b)
   entries_on built param open_list place b [] rest begins after =
@@ -291,11 +292,11 @@ module _ (most size : ℕ) (why : ReadFault) (t : List ℕ) where
       (subst (λ x. After most size why (brace ∷ built.open_braces) x) same after))
   behind_on built param (slot.Entry open_list) text place b at (inl cut) =
       then_false Rest (b == 58 && is_key text) _ _ (not_both (b == 58) (is_key text) (not_colon most size t [] b (comma_begins b open_list.bracket built.open_braces cut)))
-      (comma_on built param (with_entry open_list (entry.Word text)) place b cut)
+      (comma_on built param (with_entry open_list (entry.word text)) place b cut)
   behind_on built param (slot.Entry open_list) text place b at (inr (colon, first, keyed, begins, gap, cut)) =
       then_true Rest (b == 58 && is_key text) _ _ (both_true (b == 58) (is_key text) (eq-eqb b 58 (head_of b 58 t colon begins)) keyed)
       (first, subst (λ x. IsGap x first) (tail_of b 58 t colon begins) gap, cut)
-  behind_on built param (slot.Pair open_list key) text place b at cut = comma_on built param (with_entry open_list (entry.Pair key text)) place b cut
+  behind_on built param (slot.Pair open_list key) text place b at cut = comma_on built param (with_entry open_list (entry.pair key text)) place b cut
 
   -- ---- white space and comments
 

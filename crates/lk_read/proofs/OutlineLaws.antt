@@ -30,7 +30,7 @@ leaf_before margin name value rest = sym (append_assoc (start_text margin name +
 pub item_text : (margin name : List ℕ) (place : ℕ) (value : Node) (rest : Outline) → text_at margin (item_before name place value rest) ≡ text_at margin (item_before name place value no_more) ++ text_at margin rest
 item_text margin name place (node.Word text) rest = leaf_before margin name (word text) (text_at margin rest)
 item_text margin name place (node.Quoted text) rest = leaf_before margin name (quoted text) (text_at margin rest)
-item_text margin name place (node.List entries) rest = leaf_before margin name (list entries.items) (text_at margin rest)
+item_text margin name place (node.List entries) rest = leaf_before margin name (list entries) (text_at margin rest)
 item_text margin name place (node.Block title inner) rest =
     ap (λ x. x ++ text_at margin rest) (sym (append-nil (start_text margin name ++ title_text title ++ block_text margin inner (text_at (margin ++ 32 ∷ 32 ∷ []) inner))))
 item_text margin name place (node.Code text) rest = leaf_before margin name (code text) (text_at margin rest)

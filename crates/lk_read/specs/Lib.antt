@@ -1,6 +1,8 @@
 pub mod Lines
+pub mod Entry
 pub mod Outline
 pub mod OutlineCode
+pub mod EntryOutline
 pub mod TreeOutline
 pub mod TreeFalls
 pub mod Bytes

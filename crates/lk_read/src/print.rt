@@ -1,5 +1,6 @@
 ghost use Rattle.std.specs.Prelude.{◌≡◌, ◌++◌, ◌∷◌, [], IfOk, Option, Some, None};
 ghost use Rattle.lk_read.specs.Canonical.{canonical, SpellsAgain, text_at, characters, escaped, string_text, entry_text, further_entries, entries_text, plain_text, title_text, start_text, block_text};
+ghost use Rattle.lk_read.specs.EntryOutline.{one_of, entry_of, entries_of};
 ghost use Rattle.lk_read.specs.Outline.{no_more, list};
 ghost use Rattle.lk_read.specs.TreeOutline.{item_before, outline_of};
 
@@ -75,7 +76,7 @@ fn print_title(text: Bytes, title: &Option<Text>) -> Result<Bytes, NoMemory>
 }
 
 fn print_list(text: Bytes, entries: &[Entry]) -> Result<Bytes, NoMemory>
-    ensures { IfOk result (λ made. made ≡ text ++ 91 ∷ (entries_text entries.now ++ 93 ∷ [])) }
+    ensures { IfOk result (λ made. made ≡ text ++ 91 ∷ (entries_text (entries_of entries.now) ++ 93 ∷ [])) }
 {
     let text = with(text, b"[")?;
     let text = print_entries(text, entries)?;
@@ -83,7 +84,7 @@ fn print_list(text: Bytes, entries: &[Entry]) -> Result<Bytes, NoMemory>
 }
 
 fn print_entries(text: Bytes, entries: &[Entry]) -> Result<Bytes, NoMemory>
-    ensures { IfOk result (λ made. made ≡ text ++ entries_text entries.now) }
+    ensures { IfOk result (λ made. made ≡ text ++ entries_text (entries_of entries.now)) }
 {
     match entries.split_first() {
         None => Ok(text),
@@ -93,7 +94,7 @@ fn print_entries(text: Bytes, entries: &[Entry]) -> Result<Bytes, NoMemory>
 
 /// The entries behind the first, each with a comma before it.
 fn print_further(text: Bytes, entries: &[Entry]) -> Result<Bytes, NoMemory>
-    ensures { IfOk result (λ made. made ≡ text ++ further_entries entries.now) }
+    ensures { IfOk result (λ made. made ≡ text ++ further_entries (entries_of entries.now)) }
 {
     let mut text = text;
     for entry in entries {
@@ -103,15 +104,25 @@ fn print_further(text: Bytes, entries: &[Entry]) -> Result<Bytes, NoMemory>
 }
 
 fn print_entry(text: Bytes, entry: &Entry) -> Result<Bytes, NoMemory>
-    ensures { IfOk result (λ made. made ≡ text ++ entry_text entry.now) }
+    ensures { IfOk result (λ made. made ≡ text ++ entry_text (entry_of entry.now)) }
 {
     match entry {
-        Entry::Word(word) => with(text, word.as_bytes()),
-        Entry::Quoted(string) => print_string(text, string.as_bytes()),
+        Entry::One(value) => print_one(text, value),
         Entry::Pair(key, string) => {
             let text = with(text, key.as_bytes())?;
             print_string(with(text, b": ")?, string.as_bytes())
         }
+    }
+}
+
+/// A word or a string. No text has another value in a list, and such a one prints as nothing.
+fn print_one(text: Bytes, value: &Node) -> Result<Bytes, NoMemory>
+    ensures { IfOk result (λ made. made ≡ text ++ entry_text (one_of value.now)) }
+{
+    match value {
+        Node::Word(word) => with(text, word.as_bytes()),
+        Node::Quoted(string) => print_string(text, string.as_bytes()),
+        Node::List(_) | Node::Block(_, _) | Node::Code(_) => Ok(text),
     }
 }
 

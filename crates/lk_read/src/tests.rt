@@ -1,5 +1,5 @@
-use crate::{Node, ReadFault, Tree, print_tree, read_file};
-use lk_val::Bytes;
+use crate::{Entries, Entry, Item, Node, ReadFault, Tree, print_tree, read_file};
+use lk_val::{Bytes, Text};
 use std::alloc::Global;
 use std::test::Fail;
 
@@ -270,5 +270,31 @@ fn a_tree_is_taken_apart_and_made_again(rt: HostRuntime) -> Result<(), Fail> {
     assert!(rt; !made.is_empty());
     let printed = print_tree(rt.alloc(), &made)?;
     assert_eq!(rt; printed.as_slice(), b"a: b\nc: d\n".as_slice());
+    Ok(())
+}
+
+#[test]
+fn a_list_is_made_by_hand_and_printed(rt: HostRuntime) -> Result<(), Fail> {
+    let mut entries = Vec::new(rt.alloc());
+    entries.push(Entry::One(Node::Word(Text::from_str(rt.alloc(), "b")?)))?;
+    entries.push(Entry::One(Node::Quoted(Text::from_str(rt.alloc(), "c \"d")?)))?;
+    let key = Text::from_str(rt.alloc(), "e.f")?;
+    entries.push(Entry::Pair(key, Text::from_str(rt.alloc(), ">5")?))?;
+    let mut items = Vec::new(rt.alloc());
+    items.push(Item {
+        name: Text::from_str(rt.alloc(), "a")?,
+        value: Node::List(Entries::from_vec(entries)),
+        place: 0,
+    })?;
+    let printed = print_tree(rt.alloc(), &Tree::from_vec(items))?;
+    let canonical = "a: [b, \"c \\\"d\", e.f: \">5\"]\n";
+    assert_eq!(rt; printed.as_slice(), canonical.as_bytes());
+    let tree = read_file(rt.alloc(), printed.as_slice())?;
+    if let Node::List(entries) = &tree.items()[0].value {
+        assert_eq!(rt; entries.as_slice().len(), 3);
+        assert!(rt; matches!(&entries.as_slice()[1], Entry::One(Node::Quoted(_))));
+    } else {
+        panic!(rt; "not a list");
+    }
     Ok(())
 }
