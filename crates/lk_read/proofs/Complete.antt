@@ -193,7 +193,7 @@ module _ (most size : ℕ) (t : List ℕ) (all : List Line) where
   entry_on built param open_list place b more (entry.pair key v) es behind rest e (after_key, colon, start, is, keyed, gap, gap2, scalar) follows =
       word_on built param (slot.Entry open_list) place b more key after_key e is
       (58 ∷ colon, gap, inr (colon, start, v, behind, keyed, refl, gap2, scalar, follows))
-  entry_on built param open_list place b more (entry.other size) es behind rest e is follows = absurd is
+  entry_on built param open_list place b more (entry.other value) es behind rest e is follows = absurd is
 
   entries_on : (built : Built) (param : Param) (open_list : OpenList) (place b : ℕ) (more : List Line) (es : List Entry) (rest : List ℕ) → all ≡ built.lines ++ more → AreEntries (b ∷ t) es rest → Emits most size (length built.open_braces) (plain param.name param.place (list (open_list.entries ++ es))) rest more → On Rest (start_at most built param (slot.Entry open_list) place b)
   entries_on built param open_list place b more [] rest e begins emits =
@@ -280,7 +280,7 @@ module _ (most size : ℕ) (t : List ℕ) (all : List Line) where
   entry_begins b (entry.word w) rest is = word_begins b is.0
   entry_begins b (entry.quoted q) rest is = begins_at b 34 (head_of b 34 t is.0 is.1) (refl, refl)
   entry_begins b (entry.pair key v) rest is = word_begins b is.3.0
-  entry_begins b (entry.other size) rest is = absurd is
+  entry_begins b (entry.other value) rest is = absurd is
 
   pub entries_begin : (b : ℕ) (es : List Entry) (rest : List ℕ) → AreEntries (b ∷ t) es rest → BeginsPiece b
   entries_begin b [] rest is = begins_at b 93 (head_of b 93 t rest is) (refl, refl)
@@ -521,7 +521,7 @@ module _ (most size : ℕ) where
   no_entry (entry.word w) rest is = is
   no_entry (entry.quoted q) rest is = let never = is.1 in cc
   no_entry (entry.pair key v) rest is = is.3
-  no_entry (entry.other size) rest is = is
+  no_entry (entry.other value) rest is = is
 
   pub no_entries : (es : List Entry) (rest : List ℕ) → AreEntries [] es rest → ⊥
   no_entries [] rest is = cc

@@ -221,7 +221,7 @@ module _ (most size : ℕ) (why : ReadFault) (t : List ℕ) where
   entry_on built param open_list place b (entry.pair key v) behind (after_key, colon, start, is, keyed, gap, gap2, scalar) follows =
       word_on built param (slot.Entry open_list) place b key after_key is
       (58 ∷ colon, gap, inr (colon, start, keyed, refl, gap2, inl (v, behind, scalar, follows)))
-  entry_on built param open_list place b (entry.other size) behind is follows = absurd is
+  entry_on built param open_list place b (entry.other value) behind is follows = absurd is
 
   entries_on : (built : Built) (param : Param) (open_list : OpenList) (place b : ℕ) (es : List Entry) (rest : List ℕ) → AreEntries (b ∷ t) es rest → After most size why built.open_braces rest → Then Rest (start_at most built param (slot.Entry open_list) place b)
   entries_on built param open_list place b [] rest begins after =

@@ -67,7 +67,7 @@ entry_of (entry.pair key s) b rest v h =
       space_before (string_text s ++ b ∷ rest),
       inr (string_of s (b ∷ rest) v.2),
     )
-entry_of (entry.other size) b rest v h = absurd v
+entry_of (entry.other value) b rest v h = absurd v
 
 entries_of : (e : Entry) (es : List Entry) (rest : List ℕ) → ValidEntries (e ∷ es) → AreEntries (entries_text (e ∷ es) ++ 93 ∷ rest) (e ∷ es) rest
 entries_of e [] rest v =

@@ -195,7 +195,7 @@ abbrev pub ValidEntry : Entry → Type 0
 ValidEntry (entry.word w) = IsOf is_word_byte w
 ValidEntry (entry.quoted q) = is_text q ≡ true
 ValidEntry (entry.pair key v) = IsOf is_word_byte key × (is_key key ≡ true) × (is_text v ≡ true)
-ValidEntry (entry.other size) = ⊥
+ValidEntry (entry.other value) = ⊥
 
 abbrev pub ValidEntries : List Entry → Type 0
 ValidEntries [] = Unit {0}
@@ -214,7 +214,7 @@ valid_entry text (entry.word w) rest is = whole_kind is_word_byte text w rest is
 valid_entry text (entry.quoted q) rest is = is.3
 valid_entry text (entry.pair key v) rest (behind, colon, start, is, keyed, gap, gap2, scalar) =
     (whole_kind is_word_byte text key behind is, keyed, scalar_text start v rest scalar)
-valid_entry text (entry.other size) rest is = is
+valid_entry text (entry.other value) rest is = is
 
 valid_entries : (text : List ℕ) (es : List Entry) (rest : List ℕ) → AreEntries text es rest → ValidEntries es
 valid_entries text [] rest w = tt

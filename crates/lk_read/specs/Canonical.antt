@@ -16,12 +16,11 @@ characters (b ∷ text) = escaped b ++ characters text
 abbrev pub string_text : List ℕ → List ℕ
 string_text text = 34 ∷ (characters text ++ 34 ∷ [])
 
--- nothing for an entry that no text has
 abbrev pub entry_text : Entry → List ℕ
 entry_text (entry.word w) = w
 entry_text (entry.quoted q) = string_text q
 entry_text (entry.pair key v) = key ++ codes ": " ++ string_text v
-entry_text (entry.other size) = []
+entry_text (entry.other text) = text
 
 -- the entries behind the first, each with a comma before it
 abbrev pub further_entries : List Entry → List ℕ

@@ -118,7 +118,7 @@ IsEntry text (entry.quoted q) rest = IsString text q rest
 IsEntry text (entry.pair key scalar) rest =
     (behind colon start : List ℕ) × IsWord text key behind × (is_key key ≡ true) × IsColon behind colon × IsGap colon start
     × IsScalar start scalar rest
-IsEntry text (entry.other size) rest = ⊥
+IsEntry text (entry.other value) rest = ⊥
 
 -- the entries of a list and its `]`: commas stand between them, and one may follow the last
 abbrev pub AreEntries : List ℕ → List Entry → List ℕ → Type 0

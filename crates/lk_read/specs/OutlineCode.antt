@@ -26,7 +26,7 @@ abbrev entry_code : Entry → Gv
 entry_code (entry.word t) = gcons gnil (text_code.code t)
 entry_code (entry.quoted t) = gcons (gnum 0) (text_code.code t)
 entry_code (entry.pair key t) = gcons (gnum 1) (gcons (text_code.code key) (text_code.code t))
-entry_code (entry.other size) = gcons (gnum 2) (gnum size)
+entry_code (entry.other t) = gcons (gnum 2) (text_code.code t)
 
 pub entry_inj : (x y : Entry) → entry_code x ≡ entry_code y → x ≡ y
 entry_inj (entry.word a) (entry.word b) p = ap entry.word (text_code.inj a b (ap tail p))
@@ -34,7 +34,7 @@ entry_inj (entry.quoted a) (entry.quoted b) p = ap entry.quoted (text_code.inj a
 entry_inj (entry.pair k a) (entry.pair m b) p = λ i. entry.pair
     (text_code.inj k m (ap (λ g. head (tail g)) p) i)
     (text_code.inj a b (ap (λ g. tail (tail g)) p) i)
-entry_inj (entry.other a) (entry.other b) p = ap entry.other (coded_ℕ.inj a b (ap tail p))
+entry_inj (entry.other a) (entry.other b) p = ap entry.other (text_code.inj a b (ap tail p))
 entry_inj x y p = cc
 
 abbrev coded_entry : Coded Entry
@@ -81,7 +81,7 @@ outline_inj x y p = cc
 abbrev pub coded_outline : Coded Outline
 coded_outline = record { code = outline_code; inj = outline_inj }
 
-abbrev plain_size : Plain → ℕ
+abbrev pub plain_size : Plain → ℕ
 plain_size (word t) = 0
 plain_size (quoted t) = 0
 plain_size (list es) = entries_size es

@@ -273,20 +273,34 @@ fn a_tree_is_taken_apart_and_made_again(rt: HostRuntime) -> Result<(), Fail> {
     Ok(())
 }
 
+/// The tree of one parameter, named `a`, whose value is a list of these entries.
+fn tree_of_list(alloc: Global, entries: Vec<Entry>) -> Result<Tree, Fail> {
+    tree_of(alloc, "a", Node::List(Entries::from_vec(entries)))
+}
+
+fn tree_of(alloc: Global, name: &str, value: Node) -> Result<Tree, Fail> {
+    let name = Text::from_str(alloc, name)?;
+    let mut items = Vec::new(alloc);
+    items.push(Item {
+        name,
+        value,
+        place: 0,
+    })?;
+    Ok(Tree::from_vec(items))
+}
+
+fn word_of(alloc: Global, text: &str) -> Result<Node, Fail> {
+    Ok(Node::Word(Text::from_str(alloc, text)?))
+}
+
 #[test]
 fn a_list_is_made_by_hand_and_printed(rt: HostRuntime) -> Result<(), Fail> {
     let mut entries = Vec::new(rt.alloc());
-    entries.push(Entry::One(Node::Word(Text::from_str(rt.alloc(), "b")?)))?;
+    entries.push(Entry::One(word_of(rt.alloc(), "b")?))?;
     entries.push(Entry::One(Node::Quoted(Text::from_str(rt.alloc(), "c \"d")?)))?;
     let key = Text::from_str(rt.alloc(), "e.f")?;
     entries.push(Entry::Pair(key, Text::from_str(rt.alloc(), ">5")?))?;
-    let mut items = Vec::new(rt.alloc());
-    items.push(Item {
-        name: Text::from_str(rt.alloc(), "a")?,
-        value: Node::List(Entries::from_vec(entries)),
-        place: 0,
-    })?;
-    let printed = print_tree(rt.alloc(), &Tree::from_vec(items))?;
+    let printed = print_tree(rt.alloc(), &tree_of_list(rt.alloc(), entries)?)?;
     let canonical = "a: [b, \"c \\\"d\", e.f: \">5\"]\n";
     assert_eq!(rt; printed.as_slice(), canonical.as_bytes());
     let tree = read_file(rt.alloc(), printed.as_slice())?;
@@ -296,5 +310,21 @@ fn a_list_is_made_by_hand_and_printed(rt: HostRuntime) -> Result<(), Fail> {
     } else {
         panic!(rt; "not a list");
     }
+    Ok(())
+}
+
+#[test]
+fn other_values_in_a_list_print_as_they_do_behind_a_name(rt: HostRuntime) -> Result<(), Fail> {
+    let mut inner = Vec::new(rt.alloc());
+    inner.push(Entry::One(word_of(rt.alloc(), "b")?))?;
+    let mut entries = Vec::new(rt.alloc());
+    entries.push(Entry::One(Node::List(Entries::from_vec(inner))))?;
+    entries.push(Entry::One(Node::Code(Text::from_str(rt.alloc(), "c")?)))?;
+    let title = Text::from_str(rt.alloc(), "d")?;
+    let below = tree_of(rt.alloc(), "e", word_of(rt.alloc(), "f")?)?;
+    entries.push(Entry::One(Node::Block(Some(title), below)))?;
+    let printed = print_tree(rt.alloc(), &tree_of_list(rt.alloc(), entries)?)?;
+    let canonical = "a: [[b], c ;;, d {\n  e: f\n}\n]\n";
+    assert_eq!(rt; printed.as_slice(), canonical.as_bytes());
     Ok(())
 }

@@ -32,17 +32,18 @@ pub enum Node {
     Code(Text),
 }
 
-/// One entry of a list.
+/// One entry of a list. A text has words, strings and pairs there; a list that is made by hand may hold any value.
 #[cycle(tree)]
 #[derive(Debug, Drop)]
 pub enum Entry {
-    /// A value: a word or a string, where a text spells the list.
+    /// A value.
     One(Node),
     /// A name with a text, as in `filters: [f: "e"]`.
     Pair(Text, Text),
 }
 
-/// The entries of a list, in order. Clauses see the list of what they see of each.
+/// The entries of a list, in order. Clauses see the list of them: a word, a string or a pair as it is, and any other
+/// value as its canonical text.
 #[cycle(tree)]
 #[derive(Debug, Drop)]
 pub struct Entries {
