@@ -328,3 +328,30 @@ fn other_values_in_a_list_print_as_they_do_behind_a_name(rt: HostRuntime) -> Res
     assert_eq!(rt; printed.as_slice(), canonical.as_bytes());
     Ok(())
 }
+
+#[test]
+fn a_list_is_taken_apart_and_made_again(rt: HostRuntime) -> Result<(), Fail> {
+    let tree = read_file(rt.alloc(), b"a: [b, c: d]")?;
+    let mut items = tree.into_vec();
+    if let Some(item) = items.pop() {
+        let Item { value, .. } = item;
+        let entries = entries_of(rt.alloc(), value);
+        assert_eq!(rt; entries.len(), 2);
+        let printed = print_tree(rt.alloc(), &tree_of_list(rt.alloc(), entries)?)?;
+        assert_eq!(rt; printed.as_slice(), b"a: [b, c: \"d\"]\n".as_slice());
+    } else {
+        panic!(rt; "no parameter");
+    }
+    let none = Node::List(Entries::new(rt.alloc()));
+    let printed = print_tree(rt.alloc(), &tree_of(rt.alloc(), "a", none)?)?;
+    assert_eq!(rt; printed.as_slice(), b"a: []\n".as_slice());
+    Ok(())
+}
+
+/// The entries of a list, and none of another value.
+fn entries_of(alloc: Global, value: Node) -> Vec<Entry> {
+    match value {
+        Node::List(entries) => entries.into_vec(),
+        _ => Vec::new(alloc),
+    }
+}
