@@ -1,6 +1,6 @@
 -- Whatever a front of a text has begun can be finished.
 use Rattle.std.proofs.Common.{◌≡◌, ℕ, zero, suc, Bool, true, false, List, [], ◌∷◌, ◌++◌, inl, inr, length, refl, arith}
-use Rattle.lk_read.specs.declared.tree.Entry.TheVariants as entry
+use Rattle.lk_read.specs.Entry as entry
 use Rattle.lk_read.specs.declared.phase.OpenList.{OpenList}
 use Rattle.lk_read.specs.declared.phase.Param.{Param}
 use Rattle.lk_read.specs.declared.phase.Slot.{Slot}
@@ -107,20 +107,20 @@ module _ (most depth : ℕ) where
   behind_alive param slot.Value text =
       (closers depth, _, run_ends depth, λ size. (closers depth, gap_none (closers depth), inl (close_lines depth, refl, closes most size depth)))
   behind_alive param (slot.Entry open_list) text =
-      let c = comma_alive param (record { bracket = open_list.bracket; entries = open_list.entries ++ entry.Word text ∷ [] }) in
+      let c = comma_alive param (record { bracket = open_list.bracket; entries = open_list.entries ++ entry.word text ∷ [] }) in
       (93 ∷ closers depth, c.1, inr (refl, refl, refl), λ size. (93 ∷ closers depth, gap_none (93 ∷ closers depth), inl (c.2 size)))
   behind_alive param (slot.Pair open_list key) text =
-      let c = comma_alive param (record { bracket = open_list.bracket; entries = open_list.entries ++ entry.Pair key text ∷ [] }) in
+      let c = comma_alive param (record { bracket = open_list.bracket; entries = open_list.entries ++ entry.pair key text ∷ [] }) in
       (93 ∷ closers depth, c.1, inr (refl, refl, refl), λ size. (93 ∷ closers depth, gap_none (93 ∷ closers depth), c.2 size))
 
   string_alive : (param : Param) (spot : Slot) (text : List ℕ) → Finishes (λ size rest more. BehindString most size depth param spot text rest more)
   unfolding comma_alive
   string_alive param slot.Value text = (closers depth, _, λ size. emits most size depth param (quoted text))
   string_alive param (slot.Entry open_list) text =
-      let c = comma_alive param (record { bracket = open_list.bracket; entries = open_list.entries ++ entry.Quoted text ∷ [] }) in
+      let c = comma_alive param (record { bracket = open_list.bracket; entries = open_list.entries ++ entry.quoted text ∷ [] }) in
       (93 ∷ closers depth, c.1, λ size. (93 ∷ closers depth, gap_none (93 ∷ closers depth), c.2 size))
   string_alive param (slot.Pair open_list key) text =
-      let c = comma_alive param (record { bracket = open_list.bracket; entries = open_list.entries ++ entry.Pair key text ∷ [] }) in
+      let c = comma_alive param (record { bracket = open_list.bracket; entries = open_list.entries ++ entry.pair key text ∷ [] }) in
       (93 ∷ closers depth, c.1, λ size. (93 ∷ closers depth, gap_none (93 ∷ closers depth), c.2 size))
 
   colon_alive : (param : Param) (c : Bool) → is_code_name param.name ≡ c → (rest : List ℕ) × (more : List Line) × IsRun is_name_byte rest [] rest × ((size : ℕ) → AtGap most size depth (phase.Colon param) rest more)
@@ -167,7 +167,7 @@ module _ (most depth : ℕ) where
   start_alive param (slot.Entry open_list) =
       (93 ∷ closers depth, _, λ size. (93 ∷ closers depth, inl refl, ([], closers depth, refl, emits most size depth param (list (open_list.entries ++ [])))))
   start_alive param (slot.Pair open_list key) =
-      let c = comma_alive param (record { bracket = open_list.bracket; entries = open_list.entries ++ entry.Pair key (120 ∷ []) ∷ [] }) in (
+      let c = comma_alive param (record { bracket = open_list.bracket; entries = open_list.entries ++ entry.pair key (120 ∷ []) ∷ [] }) in (
         120 ∷ 93 ∷ closers depth,
         c.1,
         λ size. (

@@ -2,8 +2,8 @@
 use Rattle.std.proofs.Common.{◌≡◌, ℕ, nat_lt, Bool, true, false, not, ◌&&◌, ◌==◌, ◌+◌, ◌<◌, List, [], ◌∷◌, ◌++◌, inl, inr, Option, Some, None, length, Err, refl, sym, subst, arith, append_assoc}
 use Rattle.std.proofs.lemmas.Bool.{eqb-true, eq-eqb, ltb-true}
 use Rattle.std.proofs.lemmas.List.{append-nil}
-use Rattle.lk_read.specs.declared.tree.Entry.{Entry}
-use Rattle.lk_read.specs.declared.tree.Entry.TheVariants as entry
+use Rattle.lk_read.specs.Entry.{Entry}
+use Rattle.lk_read.specs.Entry as entry
 use Rattle.lk_read.specs.declared.read_fault.ReadFault.{ReadFault}
 use Rattle.lk_read.specs.declared.read_fault.ReadFault.TheVariants as fault
 use Rattle.lk_read.specs.declared.phase.Param.{Param}
@@ -119,7 +119,7 @@ module _ (most size : ℕ) (why : ReadFault) (t : List ℕ) where
   -- a pair's name and colon, and what is behind them
   pair_cut : (braces : List ℕ) (bracket b : ℕ) (key rest colon first : List ℕ) → IsWord (b ∷ t) key rest → is_key key ≡ true → IsGap rest (58 ∷ colon) → IsGap colon first → CutPair most size why braces bracket first → CutEntries most size why braces bracket (b ∷ t)
   pair_cut braces bracket b key rest colon first is keyed gap gap2 (inl (scalar, behind, s, (next, gap3, follows))) =
-      entry_cut braces bracket b (entry.Pair key scalar) behind next (rest, colon, first, is, keyed, gap, gap2, s) gap3 follows
+      entry_cut braces bracket b (entry.pair key scalar) behind next (rest, colon, first, is, keyed, gap, gap2, s) gap3 follows
   pair_cut braces bracket b key rest colon first is keyed gap gap2 (inr (inl cut)) =
       inr ([], b ∷ t, refl, inr (inr (inr (key, rest, colon, first, is, keyed, gap, gap2, inl cut))))
   pair_cut braces bracket b key rest colon first is keyed gap gap2 (inr (inr cut)) =
@@ -132,7 +132,7 @@ module _ (most size : ℕ) (why : ReadFault) (t : List ℕ) where
   word_start braces b slot.Value run rest start h r gap (inr (behind, brace, few, titled, begins, at, after)) =
       inr (inl (Some (b ∷ run), behind, brace, few, (rest, (h, run, refl, r), titled, subst (IsGap rest) begins gap), at, after))
   word_start braces b (slot.Entry open_list) run rest start h r gap (inl follows) =
-      entry_cut braces open_list.bracket b (entry.Word (b ∷ run)) rest start (h, run, refl, r) gap follows
+      entry_cut braces open_list.bracket b (entry.word (b ∷ run)) rest start (h, run, refl, r) gap follows
   word_start braces b (slot.Entry open_list) run rest start h r gap (inr (colon, first, keyed, begins, gap2, cut)) =
       pair_cut braces open_list.bracket b (b ∷ run) rest colon first (h, run, refl, r) keyed (subst (IsGap rest) begins gap) gap2 cut
   word_start braces b (slot.Pair open_list key) run rest start h r gap follows =
@@ -146,7 +146,7 @@ module _ (most size : ℕ) (why : ReadFault) (t : List ℕ) where
   string_start : (braces : List ℕ) (b : ℕ) (spot : Slot) (string rest : List ℕ) → (b == 34) ≡ true → IsQuoted t string rest → completes utf.Whole string ≡ true → CutString most size why braces spot rest → CutStart most size why braces spot (b ∷ t)
   string_start braces b slot.Value string rest h q u after = inl (quoted string, rest, (t, headed b 34 t h, q, u), after)
   string_start braces b (slot.Entry open_list) string rest h q u (next, gap, follows) =
-      entry_cut braces open_list.bracket b (entry.Quoted string) rest next (t, headed b 34 t h, q, u) gap follows
+      entry_cut braces open_list.bracket b (entry.quoted string) rest next (t, headed b 34 t h, q, u) gap follows
   string_start braces b (slot.Pair open_list key) string rest h q u follows = inl (string, rest, inr (t, headed b 34 t h, q, u), follows)
 
   quote_back : (built : Built) (param : Param) (spot : Slot) (place b : ℕ) → place + length (b ∷ t) ≡ size → (b == 34) ≡ true → CutRest most size why built.open_braces (phase.Quoted param spot place [] utf.Whole) t → CutStart most size why built.open_braces spot (b ∷ t)
@@ -202,10 +202,10 @@ module _ (most size : ℕ) (why : ReadFault) (t : List ℕ) where
   behind_back built param (slot.Entry open_list) text place b at =
       by_test (Back Rest (From built (phase.Behind param (slot.Entry open_list) text) b)) (b == 58 && is_key text) _ _
       (λ h w. let parts = both (b == 58) (is_key text) h in inr (t, w.0, parts.1, headed b 58 t parts.0, w.1, w.2))
-      (λ _. back_by Rest (comma_at built param (with_entry open_list (entry.Word text)) place b) (λ w. inl w)
-      (comma_back built param (with_entry open_list (entry.Word text)) place b))
+      (λ _. back_by Rest (comma_at built param (with_entry open_list (entry.word text)) place b) (λ w. inl w)
+      (comma_back built param (with_entry open_list (entry.word text)) place b))
   behind_back built param (slot.Pair open_list key) text place b at =
-      comma_back built param (with_entry open_list (entry.Pair key text)) place b
+      comma_back built param (with_entry open_list (entry.pair key text)) place b
 
   -- ---- white space and comments
 

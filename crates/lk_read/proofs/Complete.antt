@@ -2,8 +2,8 @@
 use Rattle.std.proofs.Common.{◌≡◌, ℕ, nat_lt, pred, Bool, true, false, not, ◌&&◌, ◌==◌, ◌+◌, ◌<◌, List, [], ◌∷◌, ◌++◌, ◌⊎◌, inl, inr, Option, Some, None, length, Result, Ok, Err, refl, sym, ap, ◌∙◌, subst, arith, append_assoc}
 use Rattle.std.proofs.lemmas.Bool.{eq-eqb, lt-ltb}
 use Rattle.std.proofs.lemmas.List.{append-nil}
-use Rattle.lk_read.specs.declared.tree.Entry.{Entry}
-use Rattle.lk_read.specs.declared.tree.Entry.TheVariants as entry
+use Rattle.lk_read.specs.Entry.{Entry}
+use Rattle.lk_read.specs.Entry as entry
 use Rattle.lk_read.specs.declared.read_fault.ReadFault.{ReadFault}
 use Rattle.lk_read.specs.declared.phase.Param.{Param}
 use Rattle.lk_read.specs.declared.phase.OpenList.{OpenList}
@@ -24,13 +24,13 @@ use Rattle.lk_read.specs.Reading.{Step, read_lines, read_from, then_read, start_
 use Rattle.lk_read.proofs.Rests.{Emits, AtComma, BehindEntry, AtStart, AtBehind, BehindString, BehindColon, At, AtGap, RestOf, BehindComment, AllLines, IsRest}
 use Rattle.lk_read.proofs.Steps.{On, on_true, on_false, differs, not_both, not_both_right, both_true, either_false, BeginsPiece, word_begins, name_is_word, begins_at, completes_parts, whole_at, no_semicolon, whole_is, on_next, unescaped_parts}
 
-head_of : (b c : ℕ) (t rest : List ℕ) → b ∷ t ≡ c ∷ rest → b ≡ c
+pub head_of : (b c : ℕ) (t rest : List ℕ) → b ∷ t ≡ c ∷ rest → b ≡ c
 head_of b c t rest e = cc
 
-tail_of : (b c : ℕ) (t rest : List ℕ) → b ∷ t ≡ c ∷ rest → rest ≡ t
+pub tail_of : (b c : ℕ) (t rest : List ℕ) → b ∷ t ≡ c ∷ rest → rest ≡ t
 tail_of b c t rest e = cc
 
-same_place : (p place n size : ℕ) → p + n ≡ size → place + n ≡ size → p ≡ place
+pub same_place : (p place n size : ℕ) → p + n ≡ size → place + n ≡ size → p ≡ place
 same_place p place n size h g = omega arith
 
 module _ (most size : ℕ) (t : List ℕ) (all : List Line) where
@@ -187,12 +187,13 @@ module _ (most size : ℕ) (t : List ℕ) (all : List Line) where
 
   -- an entry begins
   entry_on : (built : Built) (param : Param) (open_list : OpenList) (place b : ℕ) (more : List Line) (first : Entry) (es : List Entry) (behind rest : List ℕ) → all ≡ built.lines ++ more → IsEntry (b ∷ t) first behind → BehindEntry most size (length built.open_braces) param (with_entry open_list first) behind more → On Rest (start_at most built param (slot.Entry open_list) place b)
-  entry_on built param open_list place b more (entry.Word w) es behind rest e is follows =
+  entry_on built param open_list place b more (entry.word w) es behind rest e is follows =
       word_on built param (slot.Entry open_list) place b more w behind e is (follows.0, follows.1, inl follows.2)
-  entry_on built param open_list place b more (entry.Quoted q) es behind rest e is follows = string_on built param (slot.Entry open_list) place b more q behind e is follows
-  entry_on built param open_list place b more (entry.Pair key v) es behind rest e (after_key, colon, start, is, keyed, gap, gap2, scalar) follows =
+  entry_on built param open_list place b more (entry.quoted q) es behind rest e is follows = string_on built param (slot.Entry open_list) place b more q behind e is follows
+  entry_on built param open_list place b more (entry.pair key v) es behind rest e (after_key, colon, start, is, keyed, gap, gap2, scalar) follows =
       word_on built param (slot.Entry open_list) place b more key after_key e is
       (58 ∷ colon, gap, inr (colon, start, v, behind, keyed, refl, gap2, scalar, follows))
+  entry_on built param open_list place b more (entry.other value) es behind rest e is follows = absurd is
 
   entries_on : (built : Built) (param : Param) (open_list : OpenList) (place b : ℕ) (more : List Line) (es : List Entry) (rest : List ℕ) → all ≡ built.lines ++ more → AreEntries (b ∷ t) es rest → Emits most size (length built.open_braces) (plain param.name param.place (list (open_list.entries ++ es))) rest more → On Rest (start_at most built param (slot.Entry open_list) place b)
   entries_on built param open_list place b more [] rest e begins emits =
@@ -205,7 +206,7 @@ module _ (most size : ℕ) (t : List ℕ) (all : List Line) where
       entry_on built param open_list place b more first es behind rest e is
       (next, gap, (es, rest, follows, unlisted (length built.open_braces) param open_list first es rest more emits))
 
-  scalar_on : (built : Built) (param : Param) (open_list : OpenList) (key : List ℕ) (place b : ℕ) (more : List Line) (scalar rest : List ℕ) → all ≡ built.lines ++ more → IsScalar (b ∷ t) scalar rest → BehindEntry most size (length built.open_braces) param (with_entry open_list (entry.Pair key scalar)) rest more → On Rest (start_at most built param (slot.Pair open_list key) place b)
+  scalar_on : (built : Built) (param : Param) (open_list : OpenList) (key : List ℕ) (place b : ℕ) (more : List Line) (scalar rest : List ℕ) → all ≡ built.lines ++ more → IsScalar (b ∷ t) scalar rest → BehindEntry most size (length built.open_braces) param (with_entry open_list (entry.pair key scalar)) rest more → On Rest (start_at most built param (slot.Pair open_list key) place b)
   scalar_on built param open_list key place b more scalar rest e (inl is) follows = word_on built param (slot.Pair open_list key) place b more scalar rest e is follows
   scalar_on built param open_list key place b more scalar rest e (inr is) follows = string_on built param (slot.Pair open_list key) place b more scalar rest e is follows
 
@@ -223,7 +224,7 @@ module _ (most size : ℕ) (t : List ℕ) (all : List Line) where
   lines_begin depth b (block name p title ∷ lines) w = inl w.2.3.2.0
   lines_begin depth b (closing ∷ lines) w = inr (head_of b 125 t w.0 w.2.1)
 
-  not_brace : (b : ℕ) → (is_name_byte b ≡ true) ⊎ (b ≡ 125) → (b == 123) ≡ false
+  pub not_brace : (b : ℕ) → (is_name_byte b ≡ true) ⊎ (b ≡ 125) → (b == 123) ≡ false
   not_brace b (inl h) = differs is_name_byte b 123 h refl
   not_brace b (inr e) = ap (λ x. x == 123) e
 
@@ -231,7 +232,7 @@ module _ (most size : ℕ) (t : List ℕ) (all : List Line) where
   comma_begins depth b param open_list more (es, rest, inl (none, begins), emits) = inl (head_of b 93 t rest begins)
   comma_begins depth b param open_list more (es, rest, inr (comma, start, begins, gap, are), emits) = inr (head_of b 44 t comma begins)
 
-  not_colon : (b : ℕ) → (b ≡ 93) ⊎ (b ≡ 44) → (b == 58) ≡ false
+  pub not_colon : (b : ℕ) → (b ≡ 93) ⊎ (b ≡ 44) → (b == 58) ≡ false
   not_colon b (inl e) = ap (λ x. x == 58) e
   not_colon b (inr e) = ap (λ x. x == 58) e
 
@@ -245,46 +246,47 @@ module _ (most size : ℕ) (t : List ℕ) (all : List Line) where
       (subst (λ x. Emits most size (length built.open_braces) (block param.name param.place (Some text)) x more) (tail_of b 123 t rest begins) emits))
   behind_on built param (slot.Entry open_list) text place b at (more, e, inl follows) =
       on_false Rest (b == 58 && is_key text) _ _
-      (not_both (b == 58) (is_key text) (not_colon b (comma_begins (length built.open_braces) b param (with_entry open_list (entry.Word text)) more follows)))
-      (comma_on built param (with_entry open_list (entry.Word text)) place b (more, e, follows))
+      (not_both (b == 58) (is_key text) (not_colon b (comma_begins (length built.open_braces) b param (with_entry open_list (entry.word text)) more follows)))
+      (comma_on built param (with_entry open_list (entry.word text)) place b (more, e, follows))
   behind_on built param (slot.Entry open_list) text place b at (more, e, inr (colon, first, scalar, rest, keyed, begins, gap, is, follows)) =
       on_true Rest (b == 58 && is_key text) _ _ (both_true (b == 58) (is_key text) (eq-eqb b 58 (head_of b 58 t colon begins)) keyed)
       (more, e, (first, subst (λ x. IsGap x first) (tail_of b 58 t colon begins) gap, (scalar, rest, is, follows)))
-  behind_on built param (slot.Pair open_list key) text place b at w = comma_on built param (with_entry open_list (entry.Pair key text)) place b w
+  behind_on built param (slot.Pair open_list key) text place b at w = comma_on built param (with_entry open_list (entry.pair key text)) place b w
 
   -- ---- white space and comments
 
   at_125 : BeginsPiece 125
   at_125 = (refl, refl)
 
-  line_begins : (b : ℕ) → (is_name_byte b ≡ true) ⊎ (b ≡ 125) → BeginsPiece b
+  pub line_begins : (b : ℕ) → (is_name_byte b ≡ true) ⊎ (b ≡ 125) → BeginsPiece b
   line_begins b (inl h) = word_begins b (name_is_word b h)
   line_begins b (inr e) = begins_at b 125 e (refl, refl)
 
-  comma_piece : (b : ℕ) → (b ≡ 93) ⊎ (b ≡ 44) → BeginsPiece b
+  pub comma_piece : (b : ℕ) → (b ≡ 93) ⊎ (b ≡ 44) → BeginsPiece b
   comma_piece b (inl e) = begins_at b 93 e (refl, refl)
   comma_piece b (inr e) = begins_at b 44 e (refl, refl)
 
-  value_begins : (depth b : ℕ) (value : Plain) (rest : List ℕ) → IsValue most depth (b ∷ t) value rest → BeginsPiece b
+  pub value_begins : (depth b : ℕ) (value : Plain) (rest : List ℕ) → IsValue most depth (b ∷ t) value rest → BeginsPiece b
   value_begins depth b (word w) rest is = word_begins b is.0
   value_begins depth b (quoted q) rest is = begins_at b 34 (head_of b 34 t is.0 is.1) (refl, refl)
   value_begins depth b (list es) rest is = begins_at b 91 (head_of b 91 t is.1 is.3) (refl, refl)
   value_begins depth b (code c) rest is = absurd is
 
-  opening_begins : (b : ℕ) (title : Option (List ℕ)) (rest : List ℕ) → IsOpening (b ∷ t) title rest → BeginsPiece b
+  pub opening_begins : (b : ℕ) (title : Option (List ℕ)) (rest : List ℕ) → IsOpening (b ∷ t) title rest → BeginsPiece b
   opening_begins b None rest is = begins_at b 123 (head_of b 123 t rest is) (refl, refl)
   opening_begins b (Some title) rest is = word_begins b is.1.0
 
-  entry_begins : (b : ℕ) (e : Entry) (rest : List ℕ) → IsEntry (b ∷ t) e rest → BeginsPiece b
-  entry_begins b (entry.Word w) rest is = word_begins b is.0
-  entry_begins b (entry.Quoted q) rest is = begins_at b 34 (head_of b 34 t is.0 is.1) (refl, refl)
-  entry_begins b (entry.Pair key v) rest is = word_begins b is.3.0
+  pub entry_begins : (b : ℕ) (e : Entry) (rest : List ℕ) → IsEntry (b ∷ t) e rest → BeginsPiece b
+  entry_begins b (entry.word w) rest is = word_begins b is.0
+  entry_begins b (entry.quoted q) rest is = begins_at b 34 (head_of b 34 t is.0 is.1) (refl, refl)
+  entry_begins b (entry.pair key v) rest is = word_begins b is.3.0
+  entry_begins b (entry.other value) rest is = absurd is
 
-  entries_begin : (b : ℕ) (es : List Entry) (rest : List ℕ) → AreEntries (b ∷ t) es rest → BeginsPiece b
+  pub entries_begin : (b : ℕ) (es : List Entry) (rest : List ℕ) → AreEntries (b ∷ t) es rest → BeginsPiece b
   entries_begin b [] rest is = begins_at b 93 (head_of b 93 t rest is) (refl, refl)
   entries_begin b (e ∷ es) rest is = entry_begins b e is.0 is.2
 
-  scalar_begins : (b : ℕ) (scalar rest : List ℕ) → IsScalar (b ∷ t) scalar rest → BeginsPiece b
+  pub scalar_begins : (b : ℕ) (scalar rest : List ℕ) → IsScalar (b ∷ t) scalar rest → BeginsPiece b
   scalar_begins b scalar rest (inl is) = word_begins b is.0
   scalar_begins b scalar rest (inr is) = begins_at b 34 (head_of b 34 t is.0 is.1) (refl, refl)
 
@@ -297,9 +299,9 @@ module _ (most size : ℕ) (t : List ℕ) (all : List Line) where
   behind_begins : (depth b : ℕ) (param : Param) (spot : Slot) (text : List ℕ) (more : List Line) → AtBehind most size depth param spot text (b ∷ t) more → BeginsPiece b
   behind_begins depth b param slot.Value text more (inl (lines, f, are)) = line_begins b (lines_begin depth b lines are)
   behind_begins depth b param slot.Value text more (inr w) = begins_at b 123 (head_of b 123 t w.0 w.3) (refl, refl)
-  behind_begins depth b param (slot.Entry open_list) text more (inl w) = comma_piece b (comma_begins depth b param (with_entry open_list (entry.Word text)) more w)
+  behind_begins depth b param (slot.Entry open_list) text more (inl w) = comma_piece b (comma_begins depth b param (with_entry open_list (entry.word text)) more w)
   behind_begins depth b param (slot.Entry open_list) text more (inr w) = begins_at b 58 (head_of b 58 t w.0 w.5) (refl, refl)
-  behind_begins depth b param (slot.Pair open_list key) text more w = comma_piece b (comma_begins depth b param (with_entry open_list (entry.Pair key text)) more w)
+  behind_begins depth b param (slot.Pair open_list key) text more w = comma_piece b (comma_begins depth b param (with_entry open_list (entry.pair key text)) more w)
 
   at_begins : (depth b : ℕ) (now : Phase) (more : List Line) → At most size depth now (b ∷ t) more → BeginsPiece b
   at_begins depth b phase.Between more w = line_begins b (lines_begin depth b more w)
@@ -367,7 +369,7 @@ module _ (most size : ℕ) (t : List ℕ) (all : List Line) where
   string_ends built param (slot.Entry open_list) text more e w = (more, e, w)
   string_ends built param (slot.Pair open_list key) text more e w = (more, e, w)
 
-  escape_whole : (u : Utf8) (text string rest : List ℕ) → IsEscape text string rest → completes u string ≡ true → is_whole u ≡ true
+  pub escape_whole : (u : Utf8) (text string rest : List ℕ) → IsEscape text string rest → completes u string ≡ true → is_whole u ≡ true
   escape_whole u [] string rest w h = absurd w
   escape_whole u (b ∷ text) string rest w h = (unescaped_parts u b w.0 (subst (λ x. completes u x ≡ true) w.1 h)).0
 
@@ -417,7 +419,7 @@ module _ (most size : ℕ) (t : List ℕ) (all : List Line) where
 
   -- ---- code
 
-  semicolon_whole : (u : Utf8) (text kept rest : List ℕ) → IsSemicolon text kept rest → completes u kept ≡ true → is_whole u ≡ true
+  pub semicolon_whole : (u : Utf8) (text kept rest : List ℕ) → IsSemicolon text kept rest → completes u kept ≡ true → is_whole u ≡ true
   semicolon_whole u [] kept rest w h = absurd w
   semicolon_whole u (b ∷ text) kept rest (inl (is, none, same)) h = subst (λ x. completes u x ≡ true) none h
   semicolon_whole u (b ∷ text) kept rest (inr (isnt, others, f, is)) h = whole_at u 59 (b ∷ others) no_semicolon (subst (λ x. completes u x ≡ true) f h)
@@ -492,7 +494,7 @@ module _ (most size : ℕ) (t : List ℕ) (all : List Line) where
 -- ---- the end of the text
 
 module _ (most size : ℕ) where
-  no_line : (depth : ℕ) (line : Line) (rest : List ℕ) → IsLine most size depth [] line rest → ⊥
+  pub no_line : (depth : ℕ) (line : Line) (rest : List ℕ) → IsLine most size depth [] line rest → ⊥
   no_line depth (plain name p value) rest w = w.1.2
   no_line depth (block name p title) rest w = w.3.2
   no_line depth closing rest w = let never = w.1 in cc
@@ -505,26 +507,27 @@ module _ (most size : ℕ) where
   no_lines depth [] w = (w.0, refl)
   no_lines depth (line ∷ more) w = absurd (no_line depth line w.0 w.2)
 
-  no_value : (depth : ℕ) (value : Plain) (rest : List ℕ) → IsValue most depth [] value rest → ⊥
+  pub no_value : (depth : ℕ) (value : Plain) (rest : List ℕ) → IsValue most depth [] value rest → ⊥
   no_value depth (word w) rest is = is
   no_value depth (quoted q) rest is = let never = is.1 in cc
   no_value depth (list es) rest is = let never = is.3 in cc
   no_value depth (code c) rest is = is
 
-  no_opening : (title : Option (List ℕ)) (rest : List ℕ) → IsOpening [] title rest → ⊥
+  pub no_opening : (title : Option (List ℕ)) (rest : List ℕ) → IsOpening [] title rest → ⊥
   no_opening None rest is = cc
   no_opening (Some title) rest is = is.1
 
-  no_entry : (e : Entry) (rest : List ℕ) → IsEntry [] e rest → ⊥
-  no_entry (entry.Word w) rest is = is
-  no_entry (entry.Quoted q) rest is = let never = is.1 in cc
-  no_entry (entry.Pair key v) rest is = is.3
+  pub no_entry : (e : Entry) (rest : List ℕ) → IsEntry [] e rest → ⊥
+  no_entry (entry.word w) rest is = is
+  no_entry (entry.quoted q) rest is = let never = is.1 in cc
+  no_entry (entry.pair key v) rest is = is.3
+  no_entry (entry.other value) rest is = is
 
-  no_entries : (es : List Entry) (rest : List ℕ) → AreEntries [] es rest → ⊥
+  pub no_entries : (es : List Entry) (rest : List ℕ) → AreEntries [] es rest → ⊥
   no_entries [] rest is = cc
   no_entries (e ∷ es) rest is = no_entry e is.0 is.2
 
-  no_scalar : (scalar rest : List ℕ) → IsScalar [] scalar rest → ⊥
+  pub no_scalar : (scalar rest : List ℕ) → IsScalar [] scalar rest → ⊥
   no_scalar scalar rest (inl is) = is
   no_scalar scalar rest (inr is) = let never = is.1 in cc
 
@@ -545,9 +548,9 @@ module _ (most size : ℕ) where
       ∙ ap (λ x. Ok (built.lines ++ plain param.name param.place (word text) ∷ x)) (sym w.1)
       ∙ ap (λ x. Ok (built.lines ++ x)) (sym f) ∙ ap Ok (sym e)
   word_ends built param slot.Value text all more e (inr w) = let never = w.3 in cc
-  word_ends built param (slot.Entry open_list) text all more e (inl w) = absurd (no_comma (length built.open_braces) param (with_entry open_list (entry.Word text)) more w)
+  word_ends built param (slot.Entry open_list) text all more e (inl w) = absurd (no_comma (length built.open_braces) param (with_entry open_list (entry.word text)) more w)
   word_ends built param (slot.Entry open_list) text all more e (inr w) = let never = w.5 in cc
-  word_ends built param (slot.Pair open_list key) text all more e w = absurd (no_comma (length built.open_braces) param (with_entry open_list (entry.Pair key text)) more w)
+  word_ends built param (slot.Pair open_list key) text all more e w = absurd (no_comma (length built.open_braces) param (with_entry open_list (entry.pair key text)) more w)
 
   ended : (built : Built) (now : Phase) (place : ℕ) (all : List Line) → AllLines built (λ depth more. RestOf most size depth now [] more) all → end_at built now place ≡ Ok all
   ended built phase.Between place all (more, e, (start, none, are)) =

@@ -1,6 +1,6 @@
 -- What a front of a text may lead to where the text breaks off: the rest of each piece, and then the part of a line.
 use Rattle.std.proofs.Common.{◌≡◌, ℕ, suc, true, false, ◌+◌, ◌<◌, List, [], ◌∷◌, ◌++◌, ◌⊎◌, Option, length}
-use Rattle.lk_read.specs.declared.tree.Entry.{Entry}
+use Rattle.lk_read.specs.Entry.{Entry}
 use Rattle.lk_read.specs.declared.read_fault.ReadFault.{ReadFault}
 use Rattle.lk_read.specs.declared.read_fault.ReadFault.TheVariants as fault
 use Rattle.lk_read.specs.declared.phase.Param.{Param}

@@ -2,8 +2,8 @@
 use Rattle.std.proofs.Common.{◌≡◌, ℕ, nat_lt, Bool, true, false, not, ◌&&◌, ◌==◌, ◌+◌, ◌<◌, List, [], ◌∷◌, ◌++◌, inl, inr, Option, Some, None, length, Result, Ok, Err, refl, sym, ap, ◌∙◌, subst, arith, append_assoc}
 use Rattle.std.proofs.lemmas.Bool.{eqb-true, ltb-true}
 use Rattle.std.proofs.lemmas.List.{append-nil}
-use Rattle.lk_read.specs.declared.tree.Entry.{Entry}
-use Rattle.lk_read.specs.declared.tree.Entry.TheVariants as entry
+use Rattle.lk_read.specs.Entry.{Entry}
+use Rattle.lk_read.specs.Entry as entry
 use Rattle.lk_read.specs.declared.read_fault.ReadFault.{ReadFault}
 use Rattle.lk_read.specs.declared.phase.Param.{Param}
 use Rattle.lk_read.specs.declared.phase.OpenList.{OpenList}
@@ -124,9 +124,9 @@ module _ (most size : ℕ) (t : List ℕ) (all : List Line) where
   word_start depth b param slot.Value run rest start more h r gap (inr v) =
       inr (Some (b ∷ run), v.0, v.1, (rest, (h, run, refl, r), v.2, subst (IsGap rest) v.3 gap), v.4)
   word_start depth b param (slot.Entry open_list) run rest start more h r gap (inl v) =
-      (entry.Word (b ∷ run) ∷ v.0, v.1, (rest, start, (h, run, refl, r), gap, v.2), listed depth param open_list (entry.Word (b ∷ run)) v.0 v.1 more v.3)
+      (entry.word (b ∷ run) ∷ v.0, v.1, (rest, start, (h, run, refl, r), gap, v.2), listed depth param open_list (entry.word (b ∷ run)) v.0 v.1 more v.3)
   word_start depth b param (slot.Entry open_list) run rest start more h r gap (inr v) =
-      let e = entry.Pair (b ∷ run) v.2 in
+      let e = entry.pair (b ∷ run) v.2 in
       let next = v.8 in (
         e ∷ next.2.0,
         next.2.1,
@@ -139,10 +139,10 @@ module _ (most size : ℕ) (t : List ℕ) (all : List Line) where
   string_start : (depth b : ℕ) (param : Param) (spot : Slot) (string rest : List ℕ) (more : List Line) → (b == 34) ≡ true → IsQuoted t string rest → completes utf.Whole string ≡ true → BehindString most size depth param spot string rest more → AtStart most size depth param spot (b ∷ t) more
   string_start depth b param slot.Value string rest more h q u v = inl (quoted string, rest, (t, headed b 34 t h, q, u), v)
   string_start depth b param (slot.Entry open_list) string rest more h q u v = (
-    entry.Quoted string ∷ v.2.0,
+    entry.quoted string ∷ v.2.0,
     v.2.1,
     (rest, v.0, (t, headed b 34 t h, q, u), v.1, v.2.2),
-    listed depth param open_list (entry.Quoted string) v.2.0 v.2.1 more v.2.3,
+    listed depth param open_list (entry.quoted string) v.2.0 v.2.1 more v.2.3,
   )
   string_start depth b param (slot.Pair open_list key) string rest more h q u v = (string, rest, inr (t, headed b 34 t h, q, u), v)
 
@@ -195,11 +195,11 @@ module _ (most size : ℕ) (t : List ℕ) (all : List Line) where
       by_test (Back Rest (From built (phase.Behind param (slot.Entry open_list) text) b)) (b == 58 && is_key text) _ _
       (λ h w. let parts = both (b == 58) (is_key text) h in
       (w.0, w.1, inr (t, w.2.0, w.2.2.0, w.2.2.1, parts.1, headed b 58 t parts.0, w.2.1, w.2.2.2, w.2.2.3)))
-      (λ _. back_by Rest (comma_at built param (with_entry open_list (entry.Word text)) place b)
+      (λ _. back_by Rest (comma_at built param (with_entry open_list (entry.word text)) place b)
       (λ w. (w.0, w.1, inl w.2))
-      (comma_back built param (with_entry open_list (entry.Word text)) place b))
+      (comma_back built param (with_entry open_list (entry.word text)) place b))
   behind_back built param (slot.Pair open_list key) text place b at =
-      comma_back built param (with_entry open_list (entry.Pair key text)) place b
+      comma_back built param (with_entry open_list (entry.pair key text)) place b
 
   -- ---- white space and comments
 

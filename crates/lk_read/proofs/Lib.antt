@@ -7,6 +7,8 @@ pub mod Found
 pub mod Complete
 pub mod Stops
 pub mod Refused
+pub mod Onward
+pub mod OneFault
 pub mod LinesLaws
 pub mod OutlineLaws
 pub mod Answered

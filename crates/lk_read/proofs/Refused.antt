@@ -53,37 +53,37 @@ closed_lines most size depth text (plain name place value ∷ all) w = with_leaf
 closed_lines most size depth text (block name place title ∷ all) w = with_branch depth name place title all (closed_lines most size (suc depth) w.1 all w.4)
 closed_lines most size depth text (closing ∷ all) w = with_end depth all w.2.0 (closed_lines most size (pred depth) w.1 all w.4)
 
-tree_of : (most : ℕ) (text : List ℕ) (all : List Line) → SpellsLines most text all → (tree : Outline) × IsFile most text tree
+pub tree_of : (most : ℕ) (text : List ℕ) (all : List Line) → SpellsLines most text all → (tree : Outline) × IsFile most text tree
 tree_of most text all w =
     let c = closed_lines most (length text) 0 w.0 all w.2 in
     (c.0, subst (SpellsLines most text) (sym c.1) w)
 
 -- ---- runs
 
-abbrev then_step : Step → (Reader → Step) → Step
+abbrev pub then_step : Step → (Reader → Step) → Step
 then_step (Ok reader) rest = rest reader
 then_step (Err why) rest = Err why
 
 -- the reader behind a text
-abbrev run_to : ℕ → ℕ → Reader → List ℕ → Step
+abbrev pub run_to : ℕ → ℕ → Reader → List ℕ → Step
 run_to most place reader [] = Ok reader
 run_to most place reader (b ∷ text) = then_step (step most reader place b) (λ next. run_to most (place + 1) next text)
 
-ok_step : (s : Step) (f : Reader → Step) (last : Reader) → then_step s f ≡ Ok last → (next : Reader) × (s ≡ Ok next) × (f next ≡ Ok last)
+pub ok_step : (s : Step) (f : Reader → Step) (last : Reader) → then_step s f ≡ Ok last → (next : Reader) × (s ≡ Ok next) × (f next ≡ Ok last)
 ok_step (Ok next) f last h = (next, refl, h)
 ok_step (Err why) f last h = cc
 
-ok_read : (s : Step) (f : Reader → Result (List Line) ReadFault) (all : List Line) → then_read s f ≡ Ok all → (next : Reader) × (s ≡ Ok next) × (f next ≡ Ok all)
+pub ok_read : (s : Step) (f : Reader → Result (List Line) ReadFault) (all : List Line) → then_read s f ≡ Ok all → (next : Reader) × (s ≡ Ok next) × (f next ≡ Ok all)
 ok_read (Ok next) f all h = (next, refl, h)
 ok_read (Err why) f all h = cc
 
-ok_same : (x y : Reader) (s : Step) → s ≡ Ok x → s ≡ Ok y → x ≡ y
+pub ok_same : (x y : Reader) (s : Step) → s ≡ Ok x → s ≡ Ok y → x ≡ y
 ok_same x y s p q = cc
 
 never : (x : Reader) (why : ReadFault) (s : Step) → s ≡ Ok x → s ≡ Err why → ⊥
 never x why s p q = cc
 
-never_read : (x : List Line) (why : ReadFault) (s : Result (List Line) ReadFault) → s ≡ Ok x → s ≡ Err why → ⊥
+pub never_read : (x : List Line) (why : ReadFault) (s : Result (List Line) ReadFault) → s ≡ Ok x → s ≡ Err why → ⊥
 never_read x why s p q = cc
 
 opens_ok : (n m : ℕ) (x next : Reader) (why : ReadFault) → cond (nat_lt n m) (Ok x) (Err why) ≡ Ok next → (nat_lt n m ≡ true) × (x ≡ next)
@@ -129,7 +129,7 @@ run_more most more place reader last (b ∷ text) le h =
     ap (λ x. then_step x (λ next. run_to more (place + 1) next text)) s ∙ run_more most more (place + 1) w.0 last text le w.2
 
 -- the rest is read from the reader behind the front
-read_after : (most place here : ℕ) (reader last : Reader) (front rest : List ℕ) → here ≡ place + length front → run_to most place reader front ≡ Ok last → read_from most place reader (front ++ rest) ≡ read_from most here last rest
+pub read_after : (most place here : ℕ) (reader last : Reader) (front rest : List ℕ) → here ≡ place + length front → run_to most place reader front ≡ Ok last → read_from most place reader (front ++ rest) ≡ read_from most here last rest
 read_after most place here reader last [] rest at h =
     let same : reader ≡ last = ok_same reader last (Ok reader) refl h in
     let spot : place ≡ here = omega arith in

@@ -1,7 +1,7 @@
 -- What may follow a front of a text, from what the reader is in: the rest of each piece, and then the rest of the grammar.
 use Rattle.std.proofs.Common.{◌≡◌, ℕ, Bool, true, false, ◌==◌, ◌<◌, List, [], ◌∷◌, ◌++◌, ◌⊎◌, Option, Some, length}
-use Rattle.lk_read.specs.declared.tree.Entry.{Entry}
-use Rattle.lk_read.specs.declared.tree.Entry.TheVariants as entry
+use Rattle.lk_read.specs.Entry.{Entry}
+use Rattle.lk_read.specs.Entry as entry
 use Rattle.lk_read.specs.declared.phase.Param.{Param}
 use Rattle.lk_read.specs.declared.phase.OpenList.{OpenList}
 use Rattle.lk_read.specs.declared.phase.Slot.{Slot}
@@ -43,7 +43,7 @@ module _ (most size depth : ℕ) where
       (es : List Entry) × (rest : List ℕ) × AreEntries start es rest
       × Emits (plain param.name param.place (list (open_list.entries ++ es))) rest more
   AtStart param (slot.Pair open_list key) start more =
-      (scalar rest : List ℕ) × IsScalar start scalar rest × BehindEntry param (with_entry open_list (entry.Pair key scalar)) rest more
+      (scalar rest : List ℕ) × IsScalar start scalar rest × BehindEntry param (with_entry open_list (entry.pair key scalar)) rest more
 
   -- behind a word and the white space there
   abbrev pub AtBehind : Param → Slot → List ℕ → List ℕ → List Line → Type 0
@@ -51,16 +51,16 @@ module _ (most size depth : ℕ) where
       ((lines : List Line) × (more ≡ plain param.name param.place (word text) ∷ lines) × AreLines most size depth start lines)
       ⊎ ((rest : List ℕ) × (depth < most) × (is_title text ≡ true) × (start ≡ 123 ∷ rest) × Emits (block param.name param.place (Some text)) rest more)
   AtBehind param (slot.Entry open_list) text start more =
-      AtComma param (with_entry open_list (entry.Word text)) start more
+      AtComma param (with_entry open_list (entry.word text)) start more
       ⊎ ((colon first : List ℕ) × (scalar rest : List ℕ) × (is_key text ≡ true) × (start ≡ 58 ∷ colon) × IsGap colon first
-      × IsScalar first scalar rest × BehindEntry param (with_entry open_list (entry.Pair text scalar)) rest more)
-  AtBehind param (slot.Pair open_list key) text start more = AtComma param (with_entry open_list (entry.Pair key text)) start more
+      × IsScalar first scalar rest × BehindEntry param (with_entry open_list (entry.pair text scalar)) rest more)
+  AtBehind param (slot.Pair open_list key) text start more = AtComma param (with_entry open_list (entry.pair key text)) start more
 
   -- behind a string
   abbrev pub BehindString : Param → Slot → List ℕ → List ℕ → List Line → Type 0
   BehindString param slot.Value text rest more = Emits (plain param.name param.place (quoted text)) rest more
-  BehindString param (slot.Entry open_list) text rest more = BehindEntry param (with_entry open_list (entry.Quoted text)) rest more
-  BehindString param (slot.Pair open_list key) text rest more = BehindEntry param (with_entry open_list (entry.Pair key text)) rest more
+  BehindString param (slot.Entry open_list) text rest more = BehindEntry param (with_entry open_list (entry.quoted text)) rest more
+  BehindString param (slot.Pair open_list key) text rest more = BehindEntry param (with_entry open_list (entry.pair key text)) rest more
 
   -- behind a parameter's colon
   abbrev pub BehindColon : Param → List ℕ → List Line → Type 0

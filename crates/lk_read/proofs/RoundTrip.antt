@@ -2,8 +2,8 @@
 use Rattle.std.proofs.Common.{◌≡◌, ℕ, suc, Bool, true, false, ◌&&◌, ◌==◌, cond, ◌-◌, ◌<◌, ◌≤◌, List, [], ◌∷◌, ◌++◌, inl, inr, Option, Some, None, Result, Ok, Err, IfOk, length, codes, refl, sym, ap, ◌∙◌, subst, arith, append_assoc, length-append}
 use Rattle.std.proofs.lemmas.Bool.{eqb-true}
 use Rattle.std.proofs.lemmas.List.{append-nil}
-use Rattle.lk_read.specs.declared.tree.Entry.{Entry}
-use Rattle.lk_read.specs.declared.tree.Entry.TheVariants as entry
+use Rattle.lk_read.specs.Entry.{Entry}
+use Rattle.lk_read.specs.Entry as entry
 use Rattle.lk_read.specs.Outline.{Plain, word, quoted, list, code, Outline, no_more, leaf, branch, is_no_more}
 use Rattle.lk_read.specs.Lines.{Line, lines, closing}
 use Rattle.lk_read.specs.Bytes.{is_space, is_name_byte, is_word_byte, is_code_name}
@@ -53,10 +53,10 @@ space_before text = inr (inl (refl, gap_none text))
 -- ---- lists
 
 entry_of : (e : Entry) (b : ℕ) (rest : List ℕ) → ValidEntry e → is_word_byte b ≡ false → IsEntry (entry_text e ++ b ∷ rest) e (b ∷ rest)
-entry_of (entry.Word w) b rest v h = whole_of is_word_byte w b rest v h
-entry_of (entry.Quoted q) b rest v h = string_of q (b ∷ rest) v
-entry_of (entry.Pair key s) b rest v h =
-    subst (λ x. IsEntry x (entry.Pair key s) (b ∷ rest))
+entry_of (entry.word w) b rest v h = whole_of is_word_byte w b rest v h
+entry_of (entry.quoted q) b rest v h = string_of q (b ∷ rest) v
+entry_of (entry.pair key s) b rest v h =
+    subst (λ x. IsEntry x (entry.pair key s) (b ∷ rest))
     (sym (append_assoc (key ++ codes ": ") (string_text s) (b ∷ rest) ∙ append_assoc key (codes ": ") (string_text s ++ b ∷ rest))) (
       58 ∷ 32 ∷ (string_text s ++ b ∷ rest),
       32 ∷ (string_text s ++ b ∷ rest),
@@ -67,6 +67,7 @@ entry_of (entry.Pair key s) b rest v h =
       space_before (string_text s ++ b ∷ rest),
       inr (string_of s (b ∷ rest) v.2),
     )
+entry_of (entry.other value) b rest v h = absurd v
 
 entries_of : (e : Entry) (es : List Entry) (rest : List ℕ) → ValidEntries (e ∷ es) → AreEntries (entries_text (e ∷ es) ++ 93 ∷ rest) (e ∷ es) rest
 entries_of e [] rest v =

@@ -1,6 +1,6 @@
 -- A refused text stops at a byte, or is read to its end and breaks off.
 use Rattle.std.proofs.Common.{◌≡◌, ℕ, nat_lt, Bool, true, false, ◌&&◌, ◌==◌, cond, List, [], ◌∷◌, ◌++◌, ◌⊎◌, inl, inr, Option, Some, None, length, Ok, Err, refl}
-use Rattle.lk_read.specs.declared.tree.Entry.TheVariants as entry
+use Rattle.lk_read.specs.Entry as entry
 use Rattle.lk_read.specs.declared.read_fault.ReadFault.TheVariants as fault
 use Rattle.lk_read.specs.declared.phase.Param.{Param}
 use Rattle.lk_read.specs.declared.phase.OpenList.{OpenList}
@@ -76,9 +76,9 @@ module _ (place b : ℕ) where
       kind_test place (b == 123 && is_title text) (λ most. block_opened most built param (Some text) place) (λ _. between_at (with_plain built param (word text)) place b)
       (opens built _ phase.Between) (between_kind (with_plain built param (word text)))
   behind_kind built param (slot.Entry open_list) text =
-      kind_test place (b == 58 && is_key text) (λ _. in_phase built (phase.Start param (slot.Pair open_list text))) (λ _. comma_at built param (with_entry open_list (entry.Word text)) place b)
-      (goes _) (comma_kind built param (with_entry open_list (entry.Word text)))
-  behind_kind built param (slot.Pair open_list key) text = comma_kind built param (with_entry open_list (entry.Pair key text))
+      kind_test place (b == 58 && is_key text) (λ _. in_phase built (phase.Start param (slot.Pair open_list text))) (λ _. comma_at built param (with_entry open_list (entry.word text)) place b)
+      (goes _) (comma_kind built param (with_entry open_list (entry.word text)))
+  behind_kind built param (slot.Pair open_list key) text = comma_kind built param (with_entry open_list (entry.pair key text))
 
   piece_kind : (built : Built) (now : Phase) → Kind place (λ most. piece_at most built now place b)
   piece_kind built phase.Between = between_kind built

@@ -3,8 +3,8 @@ use Rattle.std.proofs.Common.{◌≡◌, ℕ, suc, Bool, true, false, ◌&&◌, 
 use Rattle.std.proofs.lemmas.Bool.{lt-ltb}
 use Rattle.std.proofs.lemmas.Bool.Decides.{nat_tests}
 use Rattle.std.proofs.lemmas.List.{append-nil}
-use Rattle.lk_read.specs.declared.tree.Entry.{Entry}
-use Rattle.lk_read.specs.declared.tree.Entry.TheVariants as entry
+use Rattle.lk_read.specs.Entry.{Entry}
+use Rattle.lk_read.specs.Entry as entry
 use Rattle.lk_read.specs.declared.utf8.Utf8.{Utf8}
 use Rattle.lk_read.specs.declared.utf8.Utf8.TheVariants as utf
 use Rattle.lk_read.specs.Outline.{Plain, word, quoted, list, code, Outline, no_more, leaf, branch}
@@ -192,9 +192,10 @@ code_text text raw rest kept w h e =
 -- ---- values
 
 abbrev pub ValidEntry : Entry → Type 0
-ValidEntry (entry.Word w) = IsOf is_word_byte w
-ValidEntry (entry.Quoted q) = is_text q ≡ true
-ValidEntry (entry.Pair key v) = IsOf is_word_byte key × (is_key key ≡ true) × (is_text v ≡ true)
+ValidEntry (entry.word w) = IsOf is_word_byte w
+ValidEntry (entry.quoted q) = is_text q ≡ true
+ValidEntry (entry.pair key v) = IsOf is_word_byte key × (is_key key ≡ true) × (is_text v ≡ true)
+ValidEntry (entry.other value) = ⊥
 
 abbrev pub ValidEntries : List Entry → Type 0
 ValidEntries [] = Unit {0}
@@ -209,10 +210,11 @@ scalar_text text scalar rest (inl w) = of_text scalar (whole_kind is_word_byte t
 scalar_text text scalar rest (inr w) = w.3
 
 valid_entry : (text : List ℕ) (e : Entry) (rest : List ℕ) → IsEntry text e rest → ValidEntry e
-valid_entry text (entry.Word w) rest is = whole_kind is_word_byte text w rest is
-valid_entry text (entry.Quoted q) rest is = is.3
-valid_entry text (entry.Pair key v) rest (behind, colon, start, is, keyed, gap, gap2, scalar) =
+valid_entry text (entry.word w) rest is = whole_kind is_word_byte text w rest is
+valid_entry text (entry.quoted q) rest is = is.3
+valid_entry text (entry.pair key v) rest (behind, colon, start, is, keyed, gap, gap2, scalar) =
     (whole_kind is_word_byte text key behind is, keyed, scalar_text start v rest scalar)
+valid_entry text (entry.other value) rest is = is
 
 valid_entries : (text : List ℕ) (es : List Entry) (rest : List ℕ) → AreEntries text es rest → ValidEntries es
 valid_entries text [] rest w = tt

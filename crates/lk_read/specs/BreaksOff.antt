@@ -1,6 +1,6 @@
 -- Texts that break off: whole lines, and then a part of a line. The innermost open construct names the fault.
 use Rattle.std.specs.Prelude.{◌≡◌, ℕ, suc, true, false, ◌+◌, ◌<◌, List, [], ◌∷◌, ◌⊎◌, length}
-use Rattle.lk_read.specs.declared.tree.Entry.{Entry}
+use Rattle.lk_read.specs.Entry.{Entry}
 use Rattle.lk_read.specs.declared.read_fault.ReadFault.{ReadFault}
 use Rattle.lk_read.specs.declared.read_fault.ReadFault.TheVariants as fault
 use Rattle.lk_read.specs.Lines.{Line, plain, block, closing}

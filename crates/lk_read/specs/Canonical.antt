@@ -1,7 +1,7 @@
 -- The canonical text of a tree: one parameter a line, two spaces for each block that it stands in. (lookd)
 use Rattle.std.specs.Prelude.{◌≡◌, ℕ, List, [], ◌∷◌, ◌++◌, Option, Some, None, codes, if◌then◌else◌}
-use Rattle.lk_read.specs.declared.tree.Entry.{Entry}
-use Rattle.lk_read.specs.declared.tree.Entry.TheVariants as entry
+use Rattle.lk_read.specs.Entry.{Entry}
+use Rattle.lk_read.specs.Entry as entry
 use Rattle.lk_read.specs.Outline.{Plain, word, quoted, list, code, Outline, no_more, leaf, branch, is_no_more}
 use Rattle.lk_read.specs.Grammar.{IsFile, is_escaped}
 
@@ -17,9 +17,10 @@ abbrev pub string_text : List ℕ → List ℕ
 string_text text = 34 ∷ (characters text ++ 34 ∷ [])
 
 abbrev pub entry_text : Entry → List ℕ
-entry_text (entry.Word w) = w
-entry_text (entry.Quoted q) = string_text q
-entry_text (entry.Pair key v) = key ++ codes ": " ++ string_text v
+entry_text (entry.word w) = w
+entry_text (entry.quoted q) = string_text q
+entry_text (entry.pair key v) = key ++ codes ": " ++ string_text v
+entry_text (entry.other text) = text
 
 -- the entries behind the first, each with a comma before it
 abbrev pub further_entries : List Entry → List ℕ

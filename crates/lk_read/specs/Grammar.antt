@@ -1,8 +1,8 @@
 -- The grammar of LookML text: which bytes spell a tree, line by line. White space and comments may stand between any two
 -- pieces. `IsX text x rest` says that the text, up to its rest, spells x.
 use Rattle.std.specs.Prelude.{◌≡◌, ℕ, suc, pred, Bool, true, false, ◌||◌, ◌==◌, ◌+◌, ◌<◌, List, [], ◌∷◌, ◌++◌, ◌⊎◌, Option, Some, None, length, if◌then◌else◌}
-use Rattle.lk_read.specs.declared.tree.Entry.{Entry}
-use Rattle.lk_read.specs.declared.tree.Entry.TheVariants as entry
+use Rattle.lk_read.specs.Entry.{Entry}
+use Rattle.lk_read.specs.Entry as entry
 use Rattle.lk_read.specs.Outline.{Outline, Plain, word, quoted, list, code}
 use Rattle.lk_read.specs.Lines.{Line, lines, plain, block, closing}
 use Rattle.lk_read.specs.Bytes.{is_space, is_name_byte, is_word_byte, is_title, is_key, is_code_name}
@@ -113,11 +113,12 @@ IsScalar text scalar rest = IsWord text scalar rest ⊎ IsString text scalar res
 
 -- an entry of a list: a word, a string, or a pair of a name and a word or a string
 abbrev pub IsEntry : List ℕ → Entry → List ℕ → Type 0
-IsEntry text (entry.Word w) rest = IsWord text w rest
-IsEntry text (entry.Quoted q) rest = IsString text q rest
-IsEntry text (entry.Pair key scalar) rest =
+IsEntry text (entry.word w) rest = IsWord text w rest
+IsEntry text (entry.quoted q) rest = IsString text q rest
+IsEntry text (entry.pair key scalar) rest =
     (behind colon start : List ℕ) × IsWord text key behind × (is_key key ≡ true) × IsColon behind colon × IsGap colon start
     × IsScalar start scalar rest
+IsEntry text (entry.other value) rest = ⊥
 
 -- the entries of a list and its `]`: commas stand between them, and one may follow the last
 abbrev pub AreEntries : List ℕ → List Entry → List ℕ → Type 0

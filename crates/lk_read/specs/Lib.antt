@@ -1,8 +1,7 @@
 pub mod Lines
+pub mod Entry
 pub mod Outline
 pub mod OutlineCode
-pub mod TreeOutline
-pub mod TreeFalls
 pub mod Bytes
 pub mod Utf8
 pub mod Grammar
@@ -10,5 +9,8 @@ pub mod Built
 pub mod FrameLines
 pub mod Reading
 pub mod Canonical
+pub mod EntryOutline
+pub mod TreeOutline
+pub mod TreeFalls
 pub mod BreaksOff
 pub mod Faults

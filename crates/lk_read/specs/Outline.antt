@@ -1,6 +1,6 @@
 -- What clauses see of a tree: its parameters, in order.
 use Rattle.std.specs.Prelude.{ℕ, Bool, true, false, List, Option}
-use Rattle.lk_read.specs.declared.tree.Entry.{Entry}
+use Rattle.lk_read.specs.Entry.{Entry}
 
 -- a value that is no block: a bare word, a string's text, a list's entries, or code
 pub data Plain : Type 0 where

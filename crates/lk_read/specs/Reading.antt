@@ -1,7 +1,7 @@
 -- How a text is read, byte by byte from the front. This is the code written again; `Grammar` says what it means.
 use Rattle.std.specs.Prelude.{◌≡◌, ℕ, Bool, true, false, not, ◌&&◌, ◌==◌, ◌+◌, nat_lt, List, [], ◌∷◌, ◌++◌, Option, Some, None, Result, Ok, Err, length, if◌then◌else◌}
-use Rattle.lk_read.specs.declared.tree.Entry.{Entry}
-use Rattle.lk_read.specs.declared.tree.Entry.TheVariants as entry
+use Rattle.lk_read.specs.Entry.{Entry}
+use Rattle.lk_read.specs.Entry as entry
 use Rattle.lk_read.specs.declared.read_fault.ReadFault.{ReadFault}
 use Rattle.lk_read.specs.declared.read_fault.ReadFault.TheVariants as fault
 use Rattle.lk_read.specs.declared.phase.Param.{Param}
@@ -93,8 +93,8 @@ behind_at most built param slot.Value text place b =
     else between_at (with_plain built param (word text)) place b
 behind_at most built param (slot.Entry open_list) text place b =
     if b == 58 && is_key text then in_phase built (phase.Start param (slot.Pair open_list text))
-    else comma_at built param (with_entry open_list (entry.Word text)) place b
-behind_at most built param (slot.Pair open_list key) text place b = comma_at built param (with_entry open_list (entry.Pair key text)) place b
+    else comma_at built param (with_entry open_list (entry.word text)) place b
+behind_at most built param (slot.Pair open_list key) text place b = comma_at built param (with_entry open_list (entry.pair key text)) place b
 
 abbrev pub piece_at : ℕ → Built → Phase → ℕ → ℕ → Step
 piece_at most built phase.Between place b = between_at built place b
@@ -118,8 +118,8 @@ goes_to built (Some next) now place = in_phase built (now next)
 
 abbrev pub string_ended : Built → Param → Slot → List ℕ → Step
 string_ended built param slot.Value text = in_phase (with_plain built param (quoted text)) phase.Between
-string_ended built param (slot.Entry open_list) text = in_phase built (phase.Comma param (with_entry open_list (entry.Quoted text)))
-string_ended built param (slot.Pair open_list key) text = in_phase built (phase.Comma param (with_entry open_list (entry.Pair key text)))
+string_ended built param (slot.Entry open_list) text = in_phase built (phase.Comma param (with_entry open_list (entry.quoted text)))
+string_ended built param (slot.Pair open_list key) text = in_phase built (phase.Comma param (with_entry open_list (entry.pair key text)))
 
 abbrev pub quoted_at : Built → Param → Slot → ℕ → List ℕ → Utf8 → ℕ → ℕ → Step
 quoted_at built param spot quote text utf8 place b =

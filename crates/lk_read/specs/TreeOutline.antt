@@ -11,7 +11,7 @@ use Rattle.lk_read.specs.Lines.{Line, lines, plain, block, closing}
 abbrev pub item_before : List ℕ → ℕ → Node → Outline → Outline
 item_before name place (node.Word text) rest = leaf name place (word text) rest
 item_before name place (node.Quoted text) rest = leaf name place (quoted text) rest
-item_before name place (node.List entries) rest = leaf name place (list entries.items) rest
+item_before name place (node.List entries) rest = leaf name place (list entries) rest
 item_before name place (node.Block title inner) rest = branch name place title inner rest
 item_before name place (node.Code text) rest = leaf name place (code text) rest
 
@@ -24,7 +24,7 @@ outline_of (item ∷ items) = item_before item.name item.place item.value (outli
 abbrev pub item_lines : List ℕ → ℕ → Node → List Line
 item_lines name place (node.Word text) = plain name place (word text) ∷ []
 item_lines name place (node.Quoted text) = plain name place (quoted text) ∷ []
-item_lines name place (node.List entries) = plain name place (list entries.items) ∷ []
+item_lines name place (node.List entries) = plain name place (list entries) ∷ []
 item_lines name place (node.Block title inner) = block name place title ∷ (lines inner ++ closing ∷ [])
 item_lines name place (node.Code text) = plain name place (code text) ∷ []
 

@@ -1,6 +1,6 @@
-use crate::tree::Entry;
+use crate::tree::Entries;
 use crate::utf8::Utf8;
-use lk_val::{Bytes, Items, Text};
+use lk_val::{Bytes, Text};
 
 /// A parameter whose value is read: its name, and the place of its name.
 #[derive(Drop)]
@@ -13,7 +13,7 @@ pub(crate) struct Param {
 #[derive(Drop)]
 pub(crate) struct OpenList {
     pub(crate) bracket: u32,
-    pub(crate) entries: Items<Entry>,
+    pub(crate) entries: Entries,
 }
 
 /// Where a word or a string stands: as a parameter's value, as an entry of a list, or behind a pair's colon.

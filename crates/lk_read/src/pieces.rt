@@ -2,6 +2,7 @@ ghost use Rattle.std.specs.Prelude.{◌≡◌, ◌++◌, ◌∷◌, [], IfOk};
 ghost use Rattle.lk_read.specs.Built.{with_lines};
 ghost use Rattle.lk_read.specs.Grammar.{unescaped};
 ghost use Rattle.lk_read.specs.Reading.{with_entry};
+ghost use Rattle.lk_read.specs.EntryOutline.{entry_of};
 ghost use Rattle.lk_read.specs.TreeOutline.{item_lines};
 
 use crate::builder::Builder;
@@ -20,13 +21,10 @@ pub(crate) fn with_value(builder: Builder, param: Param, value: Node) -> Result<
 }
 
 pub(crate) fn with_entry(list: OpenList, entry: Entry) -> Result<OpenList, NoMemory>
-    ensures { IfOk result (λ made. made ≡ with_entry list entry) }
+    ensures { IfOk result (λ made. made ≡ with_entry list (entry_of entry)) }
 {
-    let OpenList {
-        bracket,
-        mut entries,
-    } = list;
-    entries.push(entry)?;
+    let OpenList { bracket, entries } = list;
+    let entries = entries.with(entry)?;
     Ok(OpenList { bracket, entries })
 }
 

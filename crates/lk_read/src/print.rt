@@ -1,5 +1,6 @@
 ghost use Rattle.std.specs.Prelude.{◌≡◌, ◌++◌, ◌∷◌, [], IfOk, Option, Some, None};
 ghost use Rattle.lk_read.specs.Canonical.{canonical, SpellsAgain, text_at, characters, escaped, string_text, entry_text, further_entries, entries_text, plain_text, title_text, start_text, block_text};
+ghost use Rattle.lk_read.specs.EntryOutline.{value_text, entry_of, entries_of};
 ghost use Rattle.lk_read.specs.Outline.{no_more, list};
 ghost use Rattle.lk_read.specs.TreeOutline.{item_before, outline_of};
 
@@ -7,7 +8,8 @@ use crate::tree::{Entry, Item, Node, Tree};
 use lk_val::{Bytes, NoMemory, Text};
 use std::alloc::Global;
 
-/// The canonical text of a tree: one parameter a line, two spaces for each block around it. (lookd)
+/// The canonical text of a tree: one parameter a line, two spaces for each block around it. In a list, a value that no
+/// text has there stands as it does behind a parameter's name. (lookd)
 pub fn print_tree(alloc: Global, tree: &Tree) -> Result<Bytes, NoMemory>
     ensures canonical { IfOk result (λ text. text ≡ canonical tree.now) }
     // Where a text spells the tree, this one does too, places aside: so reading it gives the tree again.
@@ -38,13 +40,27 @@ fn print_item(alloc: Global, text: Bytes, item: &Item, margin: &[u8]) -> Result<
     let text = with(text, item.name.as_bytes())?;
     let text = with(text, b": ")?;
     match &item.value {
-        Node::Word(word) => end_line(with(text, word.as_bytes())?),
-        Node::Quoted(string) => end_line(print_string(text, string.as_bytes())?),
-        Node::List(entries) => end_line(print_list(text, entries.as_slice())?),
-        Node::Code(code) => end_line(with(with(text, code.as_bytes())?, b" ;;")?),
         Node::Block(title, inner) => {
             let text = print_title(text, title)?;
             print_block(alloc, text, inner, margin)
+        }
+        value => end_line(print_value(alloc, text, value)?),
+    }
+}
+
+/// A value. Behind a parameter's name a block has that line's margin, and here it has none.
+#[cycle(print)]
+fn print_value(alloc: Global, text: Bytes, value: &Node) -> Result<Bytes, NoMemory>
+    ensures { IfOk result (λ made. made ≡ text ++ value_text value.now) }
+{
+    match value {
+        Node::Word(word) => with(text, word.as_bytes()),
+        Node::Quoted(string) => print_string(text, string.as_bytes()),
+        Node::List(entries) => print_list(alloc, text, entries.as_slice()),
+        Node::Code(code) => with(with(text, code.as_bytes())?, b" ;;"),
+        Node::Block(title, inner) => {
+            let text = print_title(text, title)?;
+            print_block(alloc, text, inner, &[])
         }
     }
 }
@@ -74,40 +90,45 @@ fn print_title(text: Bytes, title: &Option<Text>) -> Result<Bytes, NoMemory>
     }
 }
 
-fn print_list(text: Bytes, entries: &[Entry]) -> Result<Bytes, NoMemory>
-    ensures { IfOk result (λ made. made ≡ text ++ 91 ∷ (entries_text entries.now ++ 93 ∷ [])) }
+#[cycle(print)]
+fn print_list(alloc: Global, text: Bytes, entries: &[Entry]) -> Result<Bytes, NoMemory>
+    ensures { IfOk result (λ made. made
+        ≡ text ++ 91 ∷ (entries_text (entries_of entries.now) ++ 93 ∷ [])) }
 {
     let text = with(text, b"[")?;
-    let text = print_entries(text, entries)?;
+    let text = print_entries(alloc, text, entries)?;
     with(text, b"]")
 }
 
-fn print_entries(text: Bytes, entries: &[Entry]) -> Result<Bytes, NoMemory>
-    ensures { IfOk result (λ made. made ≡ text ++ entries_text entries.now) }
+#[cycle(print)]
+fn print_entries(alloc: Global, text: Bytes, entries: &[Entry]) -> Result<Bytes, NoMemory>
+    ensures { IfOk result (λ made. made ≡ text ++ entries_text (entries_of entries.now)) }
 {
     match entries.split_first() {
         None => Ok(text),
-        Some((first, rest)) => print_further(print_entry(text, first)?, rest),
+        Some((first, rest)) => print_further(alloc, print_entry(alloc, text, first)?, rest),
     }
 }
 
 /// The entries behind the first, each with a comma before it.
-fn print_further(text: Bytes, entries: &[Entry]) -> Result<Bytes, NoMemory>
-    ensures { IfOk result (λ made. made ≡ text ++ further_entries entries.now) }
+#[cycle(print)]
+fn print_further(alloc: Global, text: Bytes, entries: &[Entry]) -> Result<Bytes, NoMemory>
+    ensures { IfOk result (λ made. made ≡ text ++ further_entries (entries_of entries.now)) }
 {
     let mut text = text;
     for entry in entries {
-        text = print_entry(with(text, b", ")?, entry)?;
+        text = print_entry(alloc, with(text, b", ")?, entry)?;
     }
     Ok(text)
 }
 
-fn print_entry(text: Bytes, entry: &Entry) -> Result<Bytes, NoMemory>
-    ensures { IfOk result (λ made. made ≡ text ++ entry_text entry.now) }
+#[cycle(print)]
+#[tactic(auto, using(crate::proofs::OutlineLaws::one_text))]
+fn print_entry(alloc: Global, text: Bytes, entry: &Entry) -> Result<Bytes, NoMemory>
+    ensures { IfOk result (λ made. made ≡ text ++ entry_text (entry_of entry.now)) }
 {
     match entry {
-        Entry::Word(word) => with(text, word.as_bytes()),
-        Entry::Quoted(string) => print_string(text, string.as_bytes()),
+        Entry::One(value) => print_value(alloc, text, value),
         Entry::Pair(key, string) => {
             let text = with(text, key.as_bytes())?;
             print_string(with(text, b": ")?, string.as_bytes())

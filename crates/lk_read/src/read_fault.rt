@@ -1,3 +1,8 @@
+ghost use Rattle.std.specs.Prelude.{◌≡◌, ◌⊎◌, ℕ, List};
+ghost use Rattle.lk_read.specs.Outline.{Outline};
+ghost use Rattle.lk_read.specs.Grammar.{IsFile};
+ghost use Rattle.lk_read.specs.Faults.{IsFaultOf};
+
 use lk_val::NoMemory;
 
 /// Why a text was not read, with the place of the fault. The text is read from the front.
@@ -27,3 +32,14 @@ impl From<NoMemory> for ReadFault {
         ReadFault::NoMemory
     }
 }
+
+/// Each text spells a tree or has a fault, never both, and it has one fault only. So a refused text has the fault that
+/// is answered, and no other.
+pub fn a_text_has_one_fault()
+    ensures one { (most : ℕ) (text : List ℕ) (fault other : ReadFault)
+        → IsFaultOf most text fault → IsFaultOf most text other → fault ≡ other }
+    ensures unspelled { (most : ℕ) (text : List ℕ) (fault : ReadFault)
+        → IsFaultOf most text fault → (tree : Outline) → IsFile most text tree → ⊥ }
+    ensures some { (most : ℕ) (text : List ℕ)
+        → ((tree : Outline) × IsFile most text tree) ⊎ ((fault : ReadFault) × IsFaultOf most text fault) }
+{}

@@ -56,7 +56,7 @@ pub(crate) fn end_string(
             Ok(Reader::within(builder, Phase::Between))
         }
         Slot::Entry(list) => {
-            let list = with_entry(list, Entry::Quoted(text))?;
+            let list = with_entry(list, Entry::One(Node::Quoted(text)))?;
             Ok(Reader::within(builder, Phase::Comma(param, list)))
         }
         Slot::Pair(list, key) => {

@@ -1,5 +1,5 @@
-use crate::{Node, ReadFault, Tree, print_tree, read_file};
-use lk_val::Bytes;
+use crate::{Entries, Entry, Item, Node, ReadFault, Tree, print_tree, read_file};
+use lk_val::{Bytes, Text};
 use std::alloc::Global;
 use std::test::Fail;
 
@@ -271,4 +271,87 @@ fn a_tree_is_taken_apart_and_made_again(rt: HostRuntime) -> Result<(), Fail> {
     let printed = print_tree(rt.alloc(), &made)?;
     assert_eq!(rt; printed.as_slice(), b"a: b\nc: d\n".as_slice());
     Ok(())
+}
+
+/// The tree of one parameter, named `a`, whose value is a list of these entries.
+fn tree_of_list(alloc: Global, entries: Vec<Entry>) -> Result<Tree, Fail> {
+    tree_of(alloc, "a", Node::List(Entries::from_vec(entries)))
+}
+
+fn tree_of(alloc: Global, name: &str, value: Node) -> Result<Tree, Fail> {
+    let name = Text::from_str(alloc, name)?;
+    let mut items = Vec::new(alloc);
+    items.push(Item {
+        name,
+        value,
+        place: 0,
+    })?;
+    Ok(Tree::from_vec(items))
+}
+
+fn word_of(alloc: Global, text: &str) -> Result<Node, Fail> {
+    Ok(Node::Word(Text::from_str(alloc, text)?))
+}
+
+#[test]
+fn a_list_is_made_by_hand_and_printed(rt: HostRuntime) -> Result<(), Fail> {
+    let mut entries = Vec::new(rt.alloc());
+    entries.push(Entry::One(word_of(rt.alloc(), "b")?))?;
+    entries.push(Entry::One(Node::Quoted(Text::from_str(rt.alloc(), "c \"d")?)))?;
+    let key = Text::from_str(rt.alloc(), "e.f")?;
+    entries.push(Entry::Pair(key, Text::from_str(rt.alloc(), ">5")?))?;
+    let printed = print_tree(rt.alloc(), &tree_of_list(rt.alloc(), entries)?)?;
+    let canonical = "a: [b, \"c \\\"d\", e.f: \">5\"]\n";
+    assert_eq!(rt; printed.as_slice(), canonical.as_bytes());
+    let tree = read_file(rt.alloc(), printed.as_slice())?;
+    if let Node::List(entries) = &tree.items()[0].value {
+        assert_eq!(rt; entries.as_slice().len(), 3);
+        assert!(rt; matches!(&entries.as_slice()[1], Entry::One(Node::Quoted(_))));
+    } else {
+        panic!(rt; "not a list");
+    }
+    Ok(())
+}
+
+#[test]
+fn other_values_in_a_list_print_as_they_do_behind_a_name(rt: HostRuntime) -> Result<(), Fail> {
+    let mut inner = Vec::new(rt.alloc());
+    inner.push(Entry::One(word_of(rt.alloc(), "b")?))?;
+    let mut entries = Vec::new(rt.alloc());
+    entries.push(Entry::One(Node::List(Entries::from_vec(inner))))?;
+    entries.push(Entry::One(Node::Code(Text::from_str(rt.alloc(), "c")?)))?;
+    let title = Text::from_str(rt.alloc(), "d")?;
+    let below = tree_of(rt.alloc(), "e", word_of(rt.alloc(), "f")?)?;
+    entries.push(Entry::One(Node::Block(Some(title), below)))?;
+    let printed = print_tree(rt.alloc(), &tree_of_list(rt.alloc(), entries)?)?;
+    let canonical = "a: [[b], c ;;, d {\n  e: f\n}\n]\n";
+    assert_eq!(rt; printed.as_slice(), canonical.as_bytes());
+    Ok(())
+}
+
+#[test]
+fn a_list_is_taken_apart_and_made_again(rt: HostRuntime) -> Result<(), Fail> {
+    let tree = read_file(rt.alloc(), b"a: [b, c: d]")?;
+    let mut items = tree.into_vec();
+    if let Some(item) = items.pop() {
+        let Item { value, .. } = item;
+        let entries = entries_of(rt.alloc(), value);
+        assert_eq!(rt; entries.len(), 2);
+        let printed = print_tree(rt.alloc(), &tree_of_list(rt.alloc(), entries)?)?;
+        assert_eq!(rt; printed.as_slice(), b"a: [b, c: \"d\"]\n".as_slice());
+    } else {
+        panic!(rt; "no parameter");
+    }
+    let none = Node::List(Entries::new(rt.alloc()));
+    let printed = print_tree(rt.alloc(), &tree_of(rt.alloc(), "a", none)?)?;
+    assert_eq!(rt; printed.as_slice(), b"a: []\n".as_slice());
+    Ok(())
+}
+
+/// The entries of a list, and none of another value.
+fn entries_of(alloc: Global, value: Node) -> Vec<Entry> {
+    match value {
+        Node::List(entries) => entries.into_vec(),
+        _ => Vec::new(alloc),
+    }
 }

@@ -1,30 +1,20 @@
 ghost use Rattle.std.specs.Prelude.{◌≡◌};
 ghost use Rattle.lk_read.specs.TreeOutline.{outline_of};
 
-use lk_val::Text;
+use lk_val::{NoMemory, Text};
+use std::alloc::Global;
 use std::marker::Model;
-
-/// One entry of a list.
-#[derive(Debug, Drop)]
-pub enum Entry {
-    /// A bare word.
-    Word(Text),
-    /// A string.
-    Quoted(Text),
-    /// A name with a text, as in `filters: [f: "e"]`.
-    Pair(Text, Text),
-}
 
 /// The parameters of a file or of a block, in order. Clauses see its outline.
 #[cycle(tree)]
-#[derive(Drop)]
+#[derive(Debug, Drop)]
 pub struct Tree {
     items: Vec<Item>,
 }
 
 /// A parameter: its name, its value, and the byte of its name in the text.
 #[cycle(tree)]
-#[derive(Drop)]
+#[derive(Debug, Drop)]
 pub struct Item {
     pub name: Text,
     pub value: Node,
@@ -33,13 +23,31 @@ pub struct Item {
 
 /// A parameter's value.
 #[cycle(tree)]
-#[derive(Drop)]
+#[derive(Debug, Drop)]
 pub enum Node {
     Word(Text),
     Quoted(Text),
-    List(Vec<Entry>),
+    List(Entries),
     Block(Option<Text>, Tree),
     Code(Text),
+}
+
+/// One entry of a list. A text has words, strings and pairs there; a list that is made by hand may hold any value.
+#[cycle(tree)]
+#[derive(Debug, Drop)]
+pub enum Entry {
+    /// A value.
+    One(Node),
+    /// A name with a text, as in `filters: [f: "e"]`.
+    Pair(Text, Text),
+}
+
+/// The entries of a list, in order. Clauses see the list of them: a word, a string or a pair as it is, and any other
+/// value as its canonical text.
+#[cycle(tree)]
+#[derive(Debug, Drop)]
+pub struct Entries {
+    items: Vec<Entry>,
 }
 
 impl Model for Tree {
@@ -96,5 +104,74 @@ impl Tree {
         ensures { result ≡ is_no_more self.now }
     {
         self.items.is_empty()
+    }
+}
+
+impl Model for Entries {
+    ghost use Rattle.std.specs.Prelude.{List};
+    ghost use Rattle.lk_read.specs.Entry.{Entry};
+
+    ghost Value = { List Entry };
+
+    ghost use Rattle.lk_read.specs.OutlineCode.{coded_entries};
+
+    ghost coded = { coded_entries };
+
+    ghost use Rattle.lk_read.specs.EntryOutline.{entries_of};
+
+    ghost view = { λ entries. entries_of entries.items.items };
+
+    ghost use Rattle.lk_read.specs.Entry.{entries_size};
+
+    ghost size = { entries_size };
+
+    ghost use Rattle.std.proofs.Common.{arith};
+    ghost use Rattle.lk_read.specs.TreeFalls.{most_in_entries};
+
+    ghost size_decreases = { λ entries h. omega (arith, most_in_entries entries.items.items) };
+}
+
+impl Entries {
+    ghost use Rattle.std.specs.Prelude.{◌≡◌, ◌++◌, ◌∷◌, [], IfOk};
+    ghost use Rattle.lk_read.specs.EntryOutline.{entry_of, entries_of};
+
+    /// No entry; it takes no memory.
+    pub fn new(alloc: Global) -> Entries
+        ensures { result ≡ [] }
+    {
+        Entries {
+            items: Vec::new(alloc),
+        }
+    }
+
+    /// These entries; it takes no memory.
+    pub fn from_vec(items: Vec<Entry>) -> Entries
+        ensures { result ≡ entries_of items.items }
+    {
+        Entries { items }
+    }
+
+    /// The entries, in order; it takes no memory.
+    pub fn into_vec(self) -> Vec<Entry>
+        ensures { entries_of result.items ≡ self }
+    {
+        let Entries { items } = self;
+        items
+    }
+
+    /// The entries, in order.
+    pub fn as_slice(&self) -> &[Entry]
+        ensures { entries_of result.now ≡ self.now }
+    {
+        self.items.as_slice()
+    }
+
+    /// With one more entry at the end.
+    pub(crate) fn with(self, entry: Entry) -> Result<Entries, NoMemory>
+        ensures { IfOk result (λ made. made ≡ self ++ entry_of entry ∷ []) }
+    {
+        let Entries { mut items } = self;
+        items.push(entry)?;
+        Ok(Entries { items })
     }
 }

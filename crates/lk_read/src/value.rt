@@ -7,9 +7,9 @@ use crate::phase::{OpenList, Param, Phase, Slot};
 use crate::pieces::{one_byte, with_entry, with_value};
 use crate::read_fault::ReadFault;
 use crate::reader::{Reader, between_at};
-use crate::tree::{Entry, Node};
+use crate::tree::{Entries, Entry, Node};
 use crate::utf8::Utf8;
-use lk_val::{Bytes, Items, Text};
+use lk_val::{Bytes, Text};
 use std::alloc::Global;
 
 /// How many blocks and lists may be open at once.
@@ -79,7 +79,7 @@ pub(crate) fn open_list(
     if builder.depth() < MOST_OPEN {
         let list = OpenList {
             bracket: place,
-            entries: Items::new(alloc),
+            entries: Entries::new(alloc),
         };
         Ok(Reader::within(builder, Phase::Start(param, Slot::Entry(list))))
     } else {
@@ -107,7 +107,7 @@ pub(crate) fn open_block(
 pub(crate) fn end_list(builder: Builder, param: Param, list: OpenList) -> Result<Reader, ReadFault>
     ensures { Gives result (list_ended builder param list) }
 {
-    let value = Node::List(list.entries.into_vec());
+    let value = Node::List(list.entries);
     let builder = with_value(builder, param, value)?;
     Ok(Reader::within(builder, Phase::Between))
 }
@@ -184,7 +184,7 @@ pub(crate) fn behind_entry(
     if byte == b':' && is_key(text.as_bytes()) {
         Ok(Reader::within(builder, Phase::Start(param, Slot::Pair(list, text))))
     } else {
-        let list = with_entry(list, Entry::Word(text))?;
+        let list = with_entry(list, Entry::One(Node::Word(text)))?;
         comma_at(builder, param, list, place, byte)
     }
 }
