@@ -8,3 +8,5 @@ pub mod WordLaws
 pub mod NameLaws
 pub mod LiteralLaws
 pub mod NumberLaws
+pub mod ListedLaws
+pub mod ReadingLaws

@@ -6,6 +6,7 @@ pub mod Stacks
 pub mod Steps
 pub mod Words
 pub mod Tokens
+pub mod Listed
 pub mod Literals
 pub mod Numbers
 pub mod Names

@@ -83,7 +83,8 @@ fn after_letters<'a>(small: &[u8], text: &'a [u8]) -> Option<&'a [u8]>
     }
 }
 
-pub(crate) fn is_char(letter: u8, byte: u8) -> bool
+/// Whether a byte is the letter; a small letter stands for either case.
+pub fn is_char(letter: u8, byte: u8) -> bool
     ensures { result ≡ is_char letter byte }
 {
     byte == letter || letter.is_ascii_lowercase() && byte == letter - 32
