@@ -1,0 +1,153 @@
+ghost use Rattle.std.specs.Prelude.{◌≡◌, ◌≤◌, ◌<◌, ◌+◌, IfOk};
+ghost use Rattle.lk_grammar.specs.Forms.{optional};
+ghost use Rattle.lk_grammar.specs.Numbers.{digit};
+ghost use Rattle.lk_filter_date.specs.DateTexts.{separator, pair, numeral, each_from, numerals, four_times, fourths, month_form, in_year_form, two_digits, some_digits, year_form, leap_form, date_form, count_form};
+
+use crate::written::month_length;
+use lk_grammar::Form;
+use lk_val::NoMemory;
+use std::alloc::Global;
+
+/// The form of dates: a year, a month or a day that exists.
+#[tactic(auto, unfolding(crate::specs::DateTexts::date_form))]
+pub(crate) fn date_form(alloc: Global) -> Result<Form, NoMemory>
+    ensures { IfOk result (λ form. form ≡ date_form) }
+{
+    let part = Form::optional(alloc, in_year_form(alloc, false)?)?;
+    let any_year = Form::seq(alloc, year_form(alloc)?, part)?;
+    let leap_year = Form::seq(alloc, leap_form(alloc)?, in_year_form(alloc, true)?)?;
+    Form::either(alloc, any_year, leap_year)
+}
+
+/// The form of counts, from 1 to 10,000.
+pub(crate) fn count_form(alloc: Global) -> Result<Form, NoMemory>
+    ensures { IfOk result (λ form. form ≡ count_form) }
+{
+    let two_more = Form::seq(alloc, optional_digit(alloc)?, optional_digit(alloc)?)?;
+    let three_more = Form::seq(alloc, optional_digit(alloc)?, two_more)?;
+    let up_to_four = Form::seq(alloc, Form::range(b'1', b'9'), three_more)?;
+    let zeros = Form::seq(alloc, Form::byte(b'0'), Form::byte(b'0'))?;
+    let zeros = Form::seq(alloc, Form::byte(b'0'), zeros)?;
+    let zeros = Form::seq(alloc, Form::byte(b'0'), zeros)?;
+    let ten_thousand = Form::seq(alloc, Form::byte(b'1'), zeros)?;
+    Form::either(alloc, up_to_four, ten_thousand)
+}
+
+fn optional_digit(alloc: Global) -> Result<Form, NoMemory>
+    ensures { IfOk result (λ form. form ≡ optional digit) }
+{
+    Form::optional(alloc, Form::range(b'0', b'9'))
+}
+
+fn in_year_form(alloc: Global, leap: bool) -> Result<Form, NoMemory>
+    ensures { IfOk result (λ form. form ≡ in_year_form leap) }
+{
+    Form::seq(alloc, separator(alloc)?, months_from(alloc, leap, 1, 12)?)
+}
+
+#[tactic(auto, using(crate::proofs::DateFormLaws::each_none, crate::proofs::DateFormLaws::each_some))]
+fn months_from(alloc: Global, leap: bool, first: u8, count: u8) -> Result<Form, NoMemory>
+    requires { first + count ≤ 100 }
+    ensures { IfOk result (λ form. form ≡ each_from (month_form leap) first count) }
+{
+    if count == 0 {
+        return Ok(Form::nothing());
+    }
+    let others = months_from(alloc, leap, first + 1, count - 1)?;
+    Form::either(alloc, month_form(alloc, leap, first)?, others)
+}
+
+fn month_form(alloc: Global, leap: bool, month: u8) -> Result<Form, NoMemory>
+    requires { month < 100 }
+    ensures { IfOk result (λ form. form ≡ month_form leap month) }
+{
+    let days = numerals_from(alloc, 1, month_length(leap, u64::from(month)) as u8)?;
+    let day = Form::optional(alloc, Form::seq(alloc, separator(alloc)?, days)?)?;
+    Form::seq(alloc, numeral(alloc, month)?, day)
+}
+
+#[tactic(auto, using(crate::proofs::DateFormLaws::each_none, crate::proofs::DateFormLaws::each_some))]
+fn numerals_from(alloc: Global, first: u8, count: u8) -> Result<Form, NoMemory>
+    requires { first + count ≤ 100 }
+    ensures { IfOk result (λ form. form ≡ each_from numeral first count) }
+{
+    if count == 0 {
+        return Ok(Form::nothing());
+    }
+    let others = numerals_from(alloc, first + 1, count - 1)?;
+    Form::either(alloc, numeral(alloc, first)?, others)
+}
+
+/// A number in two digits, or in one where that is enough.
+fn numeral(alloc: Global, number: u8) -> Result<Form, NoMemory>
+    requires { number < 100 }
+    ensures { IfOk result (λ form. form ≡ numeral number) }
+{
+    let single = if number <= 9 {
+        Form::byte(b'0' + number)
+    } else {
+        Form::nothing()
+    };
+    Form::either(alloc, pair(alloc, number)?, single)
+}
+
+/// A number in two digits.
+fn pair(alloc: Global, number: u8) -> Result<Form, NoMemory>
+    requires { number < 100 }
+    ensures { IfOk result (λ form. form ≡ pair number) }
+{
+    Form::seq(
+        alloc,
+        Form::byte(b'0' + number / 10),
+        Form::byte(b'0' + number % 10),
+    )
+}
+
+fn separator(alloc: Global) -> Result<Form, NoMemory>
+    ensures { IfOk result (λ form. form ≡ separator) }
+{
+    Form::either(alloc, Form::byte(b'-'), Form::byte(b'/'))
+}
+
+fn year_form(alloc: Global) -> Result<Form, NoMemory>
+    ensures { IfOk result (λ form. form ≡ year_form) }
+{
+    let late = Form::seq(alloc, some_digits(alloc)?, two_digits(alloc)?)?;
+    let early = Form::seq(alloc, pair(alloc, 0)?, some_digits(alloc)?)?;
+    Form::either(alloc, late, early)
+}
+
+fn leap_form(alloc: Global) -> Result<Form, NoMemory>
+    ensures { IfOk result (λ form. form ≡ leap_form) }
+{
+    let plain = Form::seq(alloc, two_digits(alloc)?, fourths_from(alloc, 1, 24)?)?;
+    let century = Form::seq(alloc, fourths_from(alloc, 1, 24)?, pair(alloc, 0)?)?;
+    Form::either(alloc, plain, century)
+}
+
+#[tactic(auto, using(crate::proofs::DateFormLaws::each_none, crate::proofs::DateFormLaws::each_some))]
+fn fourths_from(alloc: Global, first: u8, count: u8) -> Result<Form, NoMemory>
+    requires { first + count ≤ 25 }
+    ensures { IfOk result (λ form. form ≡ each_from four_times first count) }
+{
+    if count == 0 {
+        return Ok(Form::nothing());
+    }
+    let others = fourths_from(alloc, first + 1, count - 1)?;
+    Form::either(alloc, pair(alloc, 4 * first)?, others)
+}
+
+fn two_digits(alloc: Global) -> Result<Form, NoMemory>
+    ensures { IfOk result (λ form. form ≡ two_digits) }
+{
+    Form::seq(alloc, Form::range(b'0', b'9'), Form::range(b'0', b'9'))
+}
+
+/// Two digits that are not 00.
+fn some_digits(alloc: Global) -> Result<Form, NoMemory>
+    ensures { IfOk result (λ form. form ≡ some_digits) }
+{
+    let from_ten = Form::seq(alloc, Form::range(b'1', b'9'), Form::range(b'0', b'9'))?;
+    let below = Form::seq(alloc, Form::byte(b'0'), Form::range(b'1', b'9'))?;
+    Form::either(alloc, from_ten, below)
+}

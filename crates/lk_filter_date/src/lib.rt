@@ -1,0 +1,17 @@
+//! Filters of dates: the filter that a text spells, or the place at which it stops being one.
+#![tactic(auto)]
+
+mod forms;
+mod items;
+mod literal;
+mod place;
+mod reading;
+mod tests_of;
+mod words;
+mod written;
+
+pub use place::judge_dates;
+pub use reading::read_dates;
+
+#[cfg(test)]
+mod tests;

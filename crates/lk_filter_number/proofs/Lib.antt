@@ -1,0 +1,4 @@
+pub mod TruthLaws
+pub mod NumberReadingLaws
+pub mod NumberTokenLaws
+pub mod NumberFormLaws
