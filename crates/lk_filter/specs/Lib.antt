@@ -1,2 +1,3 @@
+pub mod FilterTexts
 pub mod Placing
 pub mod PlacedModel

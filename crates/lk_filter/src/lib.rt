@@ -1,4 +1,4 @@
-//! Filter expressions: which values pass a filter, and its relative dates at a moment.
+//! Filter expressions: filters read from texts, which values pass them, and their relative dates at a moment.
 #![tactic(auto)]
 
 mod comparing;
@@ -8,6 +8,7 @@ mod meeting;
 mod model;
 mod passing;
 mod placing;
+mod reading;
 mod sameness;
 mod unit;
 
@@ -18,6 +19,7 @@ pub use laws::{
 pub use model::place_model;
 pub use passing::{passes, passes_frac};
 pub use placing::place;
+pub use reading::{FilterFault, FilterKind, LONGEST_FILTER, read_filter};
 pub use sameness::same;
 
 #[cfg(test)]

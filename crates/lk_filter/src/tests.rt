@@ -1,5 +1,6 @@
 mod model;
 mod passing;
+mod reading;
 
 use super::*;
 use lk_types::{Days, Edge, End, Filter, Period, Test};
