@@ -1,13 +1,13 @@
 -- The value of an expression is null, or the expression has no kind but the value's.
-use Rattle.std.proofs.Common.{◌≡◌, ℕ, Bool, true, false, not, ◌&&◌, ◌||◌, List, [], ◌∷◌, ◌++◌, Option, Some, None, refl, sym, ap, subst, ◌∙◌}
-use Rattle.std.specs.Prelude.{slice_get, if◌then◌else◌, map}
+use Rattle.std.proofs.Common.{◌≡◌, ℕ, Bool, true, false, not, ◌&&◌, ◌||◌, List, ◌++◌, Option, Some, None, refl, sym}
+use Rattle.std.specs.Prelude.{if◌then◌else◌}
 use Rattle.std.proofs.lemmas.Bool.{false≢true}
 use Rattle.lk_val.specs.Values.{is_null}
 use Rattle.lk_val.specs.declared.num.Num.{Num}
 use Rattle.lk_val.specs.declared.value.Value.{Value}
 use Rattle.lk_val.specs.declared.value.Value.TheVariants as value
 use Rattle.lk_types.specs.Formula.{Formula, Column, Literal, Framed, Not, And, Or, Compare, IsNull, In, Between, Like, Number, Negate, Concat, Lower, Upper, Case, Coalesce, NullIf, Formulas, no_more, more, Cases, without_else, otherwise, when}
-use Rattle.lk_types.specs.Expressions.{value_of, values_of, first_case, column_of, value_of_truth, value_of_num, apply, negated, joined_text, on_text, first_known, null_if, is_true, is_true_truth, computed, compared}
+use Rattle.lk_types.specs.Expressions.{value_of, values_of, first_case, column_of, value_of_truth, value_of_num, apply, negated, joined_text, on_text, first_known, null_if, is_true, computed}
 use Rattle.lk_types.specs.Tables.{is_of_kind}
 use Rattle.lk_types.specs.Timeframes.{timeframe_of}
 use Rattle.lk_types.specs.declared.expr.Arithmetic.{Arithmetic}
@@ -16,7 +16,7 @@ use Rattle.lk_types.specs.declared.schema.Frame.{Frame}
 use Rattle.lk_types.specs.declared.schema.Frame.TheVariants as frame
 use Rattle.lk_types.specs.declared.schema.Kind.{Kind}
 use Rattle.lk_types.specs.declared.schema.Kind.TheVariants as kind
-use Rattle.lk_expr.specs.Kinds.{no_kind, every_kind, only, is_empty, shared, kinds_if, single, single_of, has_time, comparable, kinds_of_value, kind_at, kinds_of_column, kinds_framed, truth_if, number_if, text_if, kinds_of, kinds_of_all, kinds_of_cases, HasKinds}
+use Rattle.lk_expr.specs.Kinds.{no_kind, only, is_empty, shared, kinds_if, single, single_of, has_time, comparable, kinds_of_value, kind_at, kinds_of_column, kinds_framed, truth_if, number_if, text_if, kinds_of, kinds_of_all, kinds_of_cases, HasKinds}
 use Rattle.lk_expr.specs.declared.kind_set.KindSet.{KindSet}
 use Rattle.lk_expr.specs.declared.kinds.Leaves.{Leaves}
 

@@ -1,1 +1,4 @@
 pub mod KindLaws
+pub mod LetterLaws
+pub mod FrameSteps
+pub mod DateLaws
