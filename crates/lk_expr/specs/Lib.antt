@@ -1,2 +1,4 @@
 pub mod Dates
 pub mod Kinds
+pub mod Tokens
+pub mod Lexing

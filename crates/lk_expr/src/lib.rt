@@ -9,11 +9,16 @@ mod framed;
 mod kind_set;
 mod kinds;
 mod laws;
+mod lexer;
 mod like;
 mod texts;
+mod token;
 mod truth;
 
 pub use dated::{are_literals_dated, is_row_dated};
 pub use evaluation::eval;
 pub use kinds::{Clash, Leaves, kind_of};
 pub use laws::values_have_their_kinds;
+
+#[cfg(test)]
+mod tests;
