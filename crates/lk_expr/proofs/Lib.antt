@@ -2,3 +2,6 @@ pub mod KindLaws
 pub mod LetterLaws
 pub mod FrameSteps
 pub mod DateLaws
+pub mod LexSteps
+pub mod LexLaws
+pub mod TextLaws

@@ -1,5 +1,5 @@
 -- The token in front of a text, and what is behind it.
-use Rattle.std.specs.Prelude.{ℕ, zero, suc, ◌==◌, Bool, not, ◌&&◌, ◌||◌, nat_eq, if◌then◌else◌, List, [], ◌∷◌, ◌++◌, map, codes, take, drop, Option, Some, None, option_map}
+use Rattle.std.specs.Prelude.{ℕ, zero, suc, ◌==◌, ◌&&◌, ◌||◌, nat_eq, if◌then◌else◌, List, [], ◌∷◌, ◌++◌, codes, take, drop, Option, Some, None, option_map}
 use Rattle.std.specs.Char.{is_ascii_digit}
 use Rattle.std.specs.Cmp.Lexicographic.{pointwise}
 use Rattle.std.specs.Str.{is_utf8}
@@ -10,7 +10,7 @@ use Rattle.lk_expr.specs.declared.token.Keyword.{Keyword}
 use Rattle.lk_expr.specs.declared.token.Sign.TheVariants as sign
 use Rattle.lk_expr.specs.declared.token.Token.{Token}
 use Rattle.lk_expr.specs.declared.token.Token.TheVariants as token
-use Rattle.lk_expr.specs.Tokens.{is_name_byte, is_name, is_letter, keyword_of, is_number}
+use Rattle.lk_expr.specs.Tokens.{is_name_byte, is_letter, keyword_of, is_number}
 
 -- a token, or a name, and what is behind it
 abbrev pub Found : Type 0

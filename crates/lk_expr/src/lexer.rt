@@ -1,12 +1,13 @@
-ghost use Rattle.std.specs.Prelude.{◌≡◌, ◌≤◌, ◌∷◌, IfOk, length, option_map};
+ghost use Rattle.std.specs.Prelude.{◌≡◌, ◌≤◌, ◌∷◌, IfOk, IfSome, List, Some, length, option_map};
 ghost use Rattle.lk_grammar.specs.Tokens.{tokens_of};
 ghost use Rattle.lk_grammar.specs.Numbers.{is_of_number, unsigned_length};
 ghost use Rattle.lk_grammar.specs.Literals.{is_ended};
-ghost use Rattle.lk_expr.specs.Tokens.{is_letter, is_name_byte, is_number, white};
+ghost use Rattle.lk_expr.specs.declared.token.Token.{Token};
+ghost use Rattle.lk_expr.specs.Tokens.{IsSpelled, is_letter, is_name_byte, is_number, white};
 ghost use Rattle.lk_expr.specs.Lexing.{bare_column, closed_column, closed_field, column_token, field_token, first_by, first_characters, first_name, first_number, first_reference, first_sign, first_token, first_word, name_length, number_token, one_byte, reference_token, text_token, two_bytes};
 
 use crate::token::{Sign, Token, keyword_of};
-use lk_grammar::{Lexer, Literals, UnsignedNumbers, read_tokens};
+use lk_grammar::{Lexer, Literals, UnsignedNumbers};
 use lk_types::Comparison;
 use lk_val::{Bytes, Items, NoMemory, Num, Text};
 use std::alloc::Global;
@@ -38,10 +39,19 @@ impl Lexer for Tokens {
 }
 
 // The tokens that a text spells, and none where it spells none.
-pub(crate) fn tokens_of(alloc: Global, text: &[u8]) -> Result<Option<Items<Token>>, NoMemory>
+pub(crate) fn read_tokens(alloc: Global, text: &[u8]) -> Result<Option<Items<Token>>, NoMemory>
+    // What is read is spelled so.
+    ensures spelled { IfOk result (λ found. IfSome found (λ tokens. IsSpelled tokens text.now)) }
+    // What is spelled is read, so a text spells no other tokens.
+    ensures every { IfOk result (λ found. (tokens : List Token) → IsSpelled tokens text.now → found ≡ Some tokens) }
+{
+    tokens_of(alloc, text)
+}
+
+fn tokens_of(alloc: Global, text: &[u8]) -> Result<Option<Items<Token>>, NoMemory>
     ensures { IfOk result (λ found. found ≡ tokens_of white first_token text.now) }
 {
-    read_tokens(alloc, &Tokens, WHITE, text)
+    lk_grammar::read_tokens(alloc, &Tokens, WHITE, text)
 }
 
 // The token in front of a text, and what is behind it.

@@ -1,4 +1,4 @@
-use Rattle.std.proofs.Common.{◌≡◌, ◌+◌, ◌≤◌, drop}
+use Rattle.std.proofs.Common.{◌≡◌, ◌+◌, drop}
 use Rattle.lk_expr.specs.Lexing.{name_length}
 use Rattle.lk_expr.proofs.lexer.name_length.Given as goal
 
