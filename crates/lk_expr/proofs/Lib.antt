@@ -5,3 +5,7 @@ pub mod DateLaws
 pub mod LexSteps
 pub mod LexLaws
 pub mod TextLaws
+pub mod ParseSteps
+pub mod ParseSound
+pub mod ParseFound
+pub mod ReadLaws
