@@ -5,8 +5,10 @@ top=$(cd "$(dirname "$0")/.." && pwd) || exit 1
 work=$(mktemp -d) || exit 1
 trap 'rm -rf "$work"' EXIT
 mkdir -p "$work/crates/timing/src" || exit 1
-cp -r "$top/crates/lk_val" "$top/crates/lk_types" "$top/crates/lk_grammar" "$top/crates/lk_filter" "$work/crates" || exit 1
-grep -E '^(lk_val|lk_types|lk_grammar|lk_filter):' "$top/crates.txt" >"$work/crates.txt"
+for crate in lk_val lk_types lk_grammar lk_filter_number lk_filter_text lk_filter_date lk_filter; do
+    cp -r "$top/crates/$crate" "$work/crates" || exit 1
+done
+grep -E '^(lk_val|lk_types|lk_grammar|lk_filter|lk_filter_number|lk_filter_text|lk_filter_date):' "$top/crates.txt" >"$work/crates.txt"
 echo 'timing: lk_val lk_types lk_filter' >>"$work/crates.txt"
 cat >"$work/crates/timing/src/main.rt" <<'END'
 //! Times `passes`.
