@@ -350,15 +350,15 @@ not_first e rest s = refl
 -- ---- one level, where what stands deeper is found
 
 module _ (limit : ℕ) (below : Below) (whole : Finds 0 1 limit (below nest.Whole)) (negation : Finds 2 1 limit (below nest.Negation)) (sign_finds : Finds 6 1 limit (below nest.Sign)) where
-  named_stops : (name : List ℕ) (rest : List Token) → Stops 7 rest → named (below nest.Whole) name rest ≡ Some (Name name, rest)
-  named_stops name [] h = refl
-  named_stops name (token.Sign sign.Open ∷ ts) h = let z : 8 ≤ 7 = h in absurd (omega arith)
-  named_stops name rest h = refl
+  named_stops : (name : List ℕ) (place : ℕ) (rest : List Token) → Stops 7 rest → named (below nest.Whole) name place rest ≡ Some (Name name place, rest)
+  named_stops name place [] h = refl
+  named_stops name place (token.Sign sign.Open ∷ ts) h = let z : 8 ≤ 7 = h in absurd (omega arith)
+  named_stops name place rest h = refl
 
   atom_finds : Finds 7 0 limit (atom_in (below nest.Whole))
   atom_finds (Number n) rest s m st = refl
   atom_finds (Text n) rest s m st = refl
-  atom_finds (Name n) rest s m st = named_stops n rest st
+  atom_finds (Name n place) rest s m st = named_stops n place rest st
   atom_finds (Column n) rest s m st = refl
   atom_finds (Field n) rest s m st = refl
   atom_finds (FieldOf v n) rest s m st = refl
@@ -368,9 +368,9 @@ module _ (limit : ℕ) (below : Below) (whole : Finds 0 1 limit (below nest.Whol
   atom_finds (Group a) rest s m st =
       ap (λ z. grouped (below nest.Whole z)) (append_assoc (print a) (token.Sign sign.Close ∷ []) rest)
       ∙ ap grouped (whole a (token.Sign sign.Close ∷ rest) s (omega arith) (omega arith))
-  atom_finds (Call name args) rest s m st =
-      ap (λ z. called name (args_in (below nest.Whole) z)) (append_assoc (print_args args) (token.Sign sign.Close ∷ []) rest)
-      ∙ ap (called name) (args_found 0 1 limit (below nest.Whole) whole args (token.Sign sign.Close ∷ rest) s (omega arith) (omega arith) refl)
+  atom_finds (Call name place args) rest s m st =
+      ap (λ z. called name place (args_in (below nest.Whole) z)) (append_assoc (print_args args) (token.Sign sign.Close ∷ []) rest)
+      ∙ ap (called name place) (args_found 0 1 limit (below nest.Whole) whole args (token.Sign sign.Close ∷ rest) s (omega arith) (omega arith) refl)
   atom_finds (Case branches) rest s m st =
       ap (λ z. case_end (below nest.Whole) (branches_in (below nest.Whole) z)) (append_assoc (print_branches branches) (token.Word keyword.End ∷ []) rest)
       ∙ ap (case_end (below nest.Whole)) (branches_found 1 limit (below nest.Whole) whole branches (token.Word keyword.End ∷ rest) s (omega arith) (omega arith) refl)
@@ -389,7 +389,7 @@ module _ (limit : ℕ) (below : Below) (whole : Finds 0 1 limit (below nest.Whol
   unary_finds (Negate a) rest s m st = ap with_sign (sign_finds a rest s (omega arith) st)
   unary_finds (Number n) rest s m st = refl
   unary_finds (Text n) rest s m st = refl
-  unary_finds (Name n) rest s m st = named_stops n rest (stops_more 6 7 rest (omega arith) st)
+  unary_finds (Name n place) rest s m st = named_stops n place rest (stops_more 6 7 rest (omega arith) st)
   unary_finds (Column n) rest s m st = refl
   unary_finds (Field n) rest s m st = refl
   unary_finds (FieldOf v n) rest s m st = refl
@@ -397,7 +397,7 @@ module _ (limit : ℕ) (below : Below) (whole : Finds 0 1 limit (below nest.Whol
   unary_finds (Truth false) rest s m st = refl
   unary_finds Null rest s m st = refl
   unary_finds (Group a) rest s m st = atom_finds (Group a) rest s m (stops_more 6 7 rest (omega arith) st)
-  unary_finds (Call name args) rest s m st = atom_finds (Call name args) rest s m (stops_more 6 7 rest (omega arith) st)
+  unary_finds (Call name place args) rest s m st = atom_finds (Call name place args) rest s m (stops_more 6 7 rest (omega arith) st)
   unary_finds (Case branches) rest s m st = atom_finds (Case branches) rest s m (stops_more 6 7 rest (omega arith) st)
   unary_finds (CaseElse branches a) rest s m st = atom_finds (CaseElse branches a) rest s m (stops_more 6 7 rest (omega arith) st)
   unary_finds (Chain j a b) rest s m st = absurd (no_chain j 6 _ (omega arith) s)

@@ -267,20 +267,20 @@ module _ (limit : ℕ) (below : Below) (whole : Reads 0 1 limit (below nest.Whol
       })
   grouped_is found ts is e rest h = absurd (no_some (e, rest) h)
 
-  called_is : (name : List ℕ) (found : ParsedArgs) (ts : List Token) → IsFoundArgs 0 1 limit found ts → IsFound 7 0 limit (called name found) (token.Name name ∷ token.Sign sign.Open ∷ ts)
-  called_is name (Some (args, token.Sign sign.Close ∷ behind)) ts is e rest h =
+  called_is : (name : List ℕ) (place : ℕ) (found : ParsedArgs) (ts : List Token) → IsFoundArgs 0 1 limit found ts → IsFound 7 0 limit (called name place found) (token.Name name place ∷ token.Sign sign.Open ∷ ts)
+  called_is name place (Some (args, token.Sign sign.Close ∷ behind)) ts is e rest h =
       let read = is args (token.Sign sign.Close ∷ behind) refl in
-      read_as (Call name args) e behind rest h
+      read_as (Call name place args) e behind rest h
       (record {
-        printed = ap (λ z. token.Name name ∷ token.Sign sign.Open ∷ z) (read.printed ∙ sym (append_assoc (print_args args) (token.Sign sign.Close ∷ []) behind));
+        printed = ap (λ z. token.Name name place ∷ token.Sign sign.Open ∷ z) (read.printed ∙ sym (append_assoc (print_args args) (token.Sign sign.Close ∷ []) behind));
         stood = read.built;
         shallow = (let s = read.shallow in omega arith);
       })
-  called_is name found ts is e rest h = absurd (no_some (e, rest) h)
+  called_is name place found ts is e rest h = absurd (no_some (e, rest) h)
 
-  named_is : (name : List ℕ) (ts : List Token) → IsFound 7 0 limit (named (below nest.Whole) name ts) (token.Name name ∷ ts)
-  named_is name (token.Sign sign.Open ∷ behind) e rest h = called_is name (args_in (below nest.Whole) behind) behind (args_read 0 1 limit (below nest.Whole) whole behind) e rest h
-  named_is name ts e rest h = read_as (Name name) e ts rest h (record { printed = refl; stood = refl; shallow = omega arith })
+  named_is : (name : List ℕ) (place : ℕ) (ts : List Token) → IsFound 7 0 limit (named (below nest.Whole) name place ts) (token.Name name place ∷ ts)
+  named_is name place (token.Sign sign.Open ∷ behind) e rest h = called_is name place (args_in (below nest.Whole) behind) behind (args_read 0 1 limit (below nest.Whole) whole behind) e rest h
+  named_is name place ts e rest h = read_as (Name name place) e ts rest h (record { printed = refl; stood = refl; shallow = omega arith })
 
   else_is : (branches : Branches) (r behind ts : List Token) → r ≡ token.Word keyword.Else ∷ behind → IsReadBranches 1 limit branches r ts → (found : Parsed) → IsFound 0 1 limit found behind → IsFound 7 0 limit (ended_else branches found) (token.Word keyword.Case ∷ ts)
   else_is branches r behind ts same left (Some (a, token.Word keyword.End ∷ further)) is e rest h =
@@ -321,7 +321,7 @@ module _ (limit : ℕ) (below : Below) (whole : Reads 0 1 limit (below nest.Whol
 
   atom_reads : Reads 7 0 limit (atom_in (below nest.Whole))
   atom_reads [] e rest h = absurd (no_some (e, rest) h)
-  atom_reads (token.Name name ∷ ts) e rest h = named_is name ts e rest h
+  atom_reads (token.Name name place ∷ ts) e rest h = named_is name place ts e rest h
   atom_reads (token.Word keyword.Case ∷ ts) e rest h = case_is (branches_in (below nest.Whole) ts) ts (branches_read 1 limit (below nest.Whole) whole ts) e rest h
   atom_reads (token.Sign sign.Open ∷ ts) e rest h = grouped_is (below nest.Whole ts) ts (λ a r found. whole ts a r found) e rest h
   atom_reads (t ∷ ts) e rest h = leaf_is t ts e rest h

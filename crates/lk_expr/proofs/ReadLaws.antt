@@ -1,5 +1,5 @@
 -- The expression of a text: what is read is spelled so, and what is spelled is read.
-use Rattle.std.proofs.Common.{◌≡◌, ℕ, true, List, [], ◌∷◌, Option, Some, None, option_map, IfSome, IfOk, Result, refl, sym, ap, subst, ◌∙◌, arith}
+use Rattle.std.proofs.Common.{◌≡◌, length, ℕ, true, List, [], ◌∷◌, Option, Some, None, option_map, IfSome, IfOk, Result, refl, sym, ap, subst, ◌∙◌, arith}
 use Rattle.std.specs.Prelude.{nat_le}
 use Rattle.std.proofs.lemmas.Bool.Decides.{nat_tests}
 use Rattle.std.proofs.lemmas.Option.{same_Some}
@@ -35,13 +35,13 @@ tree_in-read ts e h = all_read (whole_in (below 100) ts) ts e (λ a rest found. 
 zero_le : (n : ℕ) → nat_le 0 n ≡ true
 zero_le n = grind (arith, nat_tests)
 
-found_is : (e : Tree) (text : List ℕ) (ts : List Token) → IsSpelled ts text → tree_in ts ≡ Some e → IsExprText e text
+found_is : (e : Tree) (text : List ℕ) (ts : List Token) → IsSpelled (length text) ts text → tree_in ts ≡ Some e → IsExprText e text
 found_is e text ts spelled h =
     let is = tree_in-read ts e h in
     record {
       built = (both (nat_le 0 (level_of e)) (is_built e) is.read.stood).1;
       shallow = (let s = is.read.shallow in omega arith);
-      spelled = subst (λ z. IsSpelled z text) is.printed spelled;
+      spelled = subst (λ z. IsSpelled (length text) z text) is.printed spelled;
     }
 
 every_is : (e : Tree) (text : List ℕ) → IsExprText e text → tree_in (print e) ≡ Some e
@@ -50,12 +50,12 @@ every_is e text is = ap (λ z. tree_in z) (sym (append-nil (print e))) ∙ ap al
 -- ---- the two laws of a result
 
 module _ {E : Type 0} (text : List ℕ) (ts : List Token) (r : Result (Option RawExpr) E) (is : IfOk r (λ found. option_map tree_of found ≡ tree_in ts)) where
-  pub result_found : IsSpelled ts text → IfOk r (λ found. IfSome found (λ e. IsExprText (tree_of e) text))
+  pub result_found : IsSpelled (length text) ts text → IfOk r (λ found. IfSome found (λ e. IsExprText (tree_of e) text))
   result_found spelled = IfOk-weaker r (λ found. option_map tree_of found ≡ tree_in ts) (λ found. IfSome found (λ e. IsExprText (tree_of e) text)) (elim [
     | None ↦ λ h. tt
     | Some e ↦ λ h. found_is (tree_of e) text ts spelled (sym h)
   ]) is
 
-  pub result_every : ((tokens : List Token) → IsSpelled tokens text → Some ts ≡ Some tokens) → IfOk r (λ found. (e : Tree) → IsExprText e text → option_map tree_of found ≡ Some e)
+  pub result_every : ((tokens : List Token) → IsSpelled (length text) tokens text → Some ts ≡ Some tokens) → IfOk r (λ found. (e : Tree) → IsExprText e text → option_map tree_of found ≡ Some e)
   result_every every = IfOk-weaker r (λ found. option_map tree_of found ≡ tree_in ts) (λ found. (e : Tree) → IsExprText e text → option_map tree_of found ≡ Some e)
       (λ found h e of. h ∙ ap tree_in (same_Some ts (print e) (every (print e) of.spelled)) ∙ every_is e text of) is

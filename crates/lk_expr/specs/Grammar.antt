@@ -1,5 +1,5 @@
 -- The grammar of expressions: its trees, the tokens of a tree, and where a tree may stand.
-use Rattle.std.specs.Prelude.{◌≡◌, ℕ, suc, ◌≤◌, nat_le, max, Bool, true, false, ◌&&◌, List, [], ◌∷◌, ◌++◌}
+use Rattle.std.specs.Prelude.{◌≡◌, ℕ, suc, ◌≤◌, nat_le, max, Bool, true, false, ◌&&◌, List, [], ◌∷◌, ◌++◌, length}
 use Rattle.lk_types.specs.declared.expr.Comparison.{Comparison}
 use Rattle.lk_expr.specs.declared.token.Keyword.TheVariants as keyword
 use Rattle.lk_expr.specs.declared.token.Sign.TheVariants as sign
@@ -14,13 +14,15 @@ use Rattle.lk_expr.specs.Tokens.{IsSpelled}
 mutual
   pub data Tree : Type 0 where
     -- literals, columns and references to fields
-    Number Text Name Column Field : List ℕ → Tree
+    Number Text Column Field : List ℕ → Tree
     FieldOf : List ℕ → List ℕ → Tree
+    -- a bare name, and the byte of the text that it begins at
+    Name : List ℕ → ℕ → Tree
     Truth : Bool → Tree
     Null : Tree
-    -- an expression in brackets, a call, and a CASE without and with ELSE
+    -- an expression in brackets, a call with its name's byte, and a CASE without and with ELSE
     Group : Tree → Tree
-    Call : List ℕ → Args → Tree
+    Call : List ℕ → ℕ → Args → Tree
     Case : Branches → Tree
     CaseElse : Branches → Tree → Tree
     -- a sign before an expression, and two that a sign or word joins
@@ -64,7 +66,7 @@ abbrev mutual
   pub print : Tree → List Token
   print (Number number) = token.Number number ∷ []
   print (Text text) = token.Text text ∷ []
-  print (Name name) = token.Name name ∷ []
+  print (Name name place) = token.Name name place ∷ []
   print (Column name) = token.Column name ∷ []
   print (Field name) = token.Field name ∷ []
   print (FieldOf view name) = token.FieldOf view name ∷ []
@@ -72,7 +74,7 @@ abbrev mutual
   print (Truth false) = token.Word keyword.False ∷ []
   print Null = token.Word keyword.Null ∷ []
   print (Group a) = token.Sign sign.Open ∷ (print a ++ token.Sign sign.Close ∷ [])
-  print (Call name args) = token.Name name ∷ token.Sign sign.Open ∷ (print_args args ++ token.Sign sign.Close ∷ [])
+  print (Call name place args) = token.Name name place ∷ token.Sign sign.Open ∷ (print_args args ++ token.Sign sign.Close ∷ [])
   print (Case branches) = token.Word keyword.Case ∷ (print_branches branches ++ token.Word keyword.End ∷ [])
   print (CaseElse branches a) = token.Word keyword.Case ∷ (print_branches branches ++ token.Word keyword.Else ∷ (print a ++ token.Word keyword.End ∷ []))
   print (Negate a) = token.Sign sign.Minus ∷ print a
@@ -123,7 +125,7 @@ abbrev mutual
   -- each part stands where it may
   pub is_built : Tree → Bool
   is_built (Group a) = stands 0 a (is_built a)
-  is_built (Call name args) = are_built 0 args
+  is_built (Call name place args) = are_built 0 args
   is_built (Case branches) = are_branches_built branches
   is_built (CaseElse branches a) = are_branches_built branches && stands 0 a (is_built a)
   is_built (Negate a) = stands 6 a (is_built a)
@@ -148,7 +150,7 @@ abbrev mutual
   -- how many brackets, calls, NOTs, signs and CASEs are open at once at most
   pub nests : Tree → ℕ
   nests (Group a) = suc (nests a)
-  nests (Call name args) = suc (nests_args args)
+  nests (Call name place args) = suc (nests_args args)
   nests (Case branches) = suc (nests_branches branches)
   nests (CaseElse branches a) = suc (max (nests_branches branches) (nests a))
   nests (Negate a) = suc (nests a)
@@ -173,4 +175,4 @@ abbrev mutual
 pub record IsExprText (e : Tree) (text : List ℕ) : Type 0 where
   pub built : is_built e ≡ true
   pub shallow : nests e ≤ 100
-  pub spelled : IsSpelled (print e) text
+  pub spelled : IsSpelled (length text) (print e) text

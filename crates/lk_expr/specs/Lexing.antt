@@ -1,5 +1,5 @@
 -- The token in front of a text, and what is behind it.
-use Rattle.std.specs.Prelude.{ℕ, zero, suc, ◌==◌, ◌&&◌, ◌||◌, nat_eq, if◌then◌else◌, List, [], ◌∷◌, ◌++◌, codes, take, drop, Option, Some, None, option_map}
+use Rattle.std.specs.Prelude.{ℕ, zero, suc, ◌-◌, length, ◌==◌, ◌&&◌, ◌||◌, nat_eq, if◌then◌else◌, List, [], ◌∷◌, ◌++◌, codes, take, drop, Option, Some, None, option_map}
 use Rattle.std.specs.Char.{is_ascii_digit}
 use Rattle.std.specs.Cmp.Lexicographic.{pointwise}
 use Rattle.std.specs.Str.{is_utf8}
@@ -26,12 +26,13 @@ abbrev pub first_name : List ℕ → Option (List ℕ × List ℕ)
 first_name text = if nat_eq (name_length text) 0 then None else Some (take (name_length text) text, drop (name_length text) text)
 
 -- a name as a token: a keyword, or the name of a column or function
-abbrev pub word_or_name : List ℕ → Option Keyword → Token
-word_or_name name None = token.Name name
-word_or_name name (Some k) = token.Word k
+abbrev pub word_or_name : List ℕ → ℕ → Option Keyword → Token
+word_or_name name place None = token.Name name place
+word_or_name name place (Some k) = token.Word k
 
-abbrev pub first_word : List ℕ → Found
-first_word text = option_map (λ name. (word_or_name name.0 (keyword_of name.0), name.1)) (first_name text)
+-- of a text of so many bytes
+abbrev pub first_word : ℕ → List ℕ → Found
+first_word whole text = option_map (λ name. (word_or_name name.0 (whole - length text) (keyword_of name.0), name.1)) (first_name text)
 
 abbrev pub number_token : List ℕ → List ℕ → Found
 number_token number rest = if is_number number && is_ended is_of_number rest then Some (token.Number number, rest) else None
@@ -115,11 +116,11 @@ first_sign [] = None
 first_sign (b ∷ []) = option_map (λ t. (t, [])) (one_byte b)
 first_sign (b ∷ c ∷ text) = or_one_byte (two_bytes b c) b c text
 
-abbrev pub first_by : ℕ → List ℕ → Found
-first_by b text =
-    if is_ascii_digit b then first_number (b ∷ text) else if is_letter b then first_word (b ∷ text)
+abbrev pub first_by : ℕ → ℕ → List ℕ → Found
+first_by whole b text =
+    if is_ascii_digit b then first_number (b ∷ text) else if is_letter b then first_word whole (b ∷ text)
     else if b == 39 then text_token (first_characters text) else if b == 36 then first_reference text else first_sign (b ∷ text)
 
-unfoldable pub first_token : List ℕ → Found
-first_token [] = None
-first_token (b ∷ text) = first_by b text
+unfoldable pub first_token : ℕ → List ℕ → Found
+first_token whole [] = None
+first_token whole (b ∷ text) = first_by whole b text

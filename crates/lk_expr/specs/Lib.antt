@@ -4,5 +4,6 @@ pub mod Tokens
 pub mod Lexing
 pub mod Grammar
 pub mod RawCode
+pub mod Calls
 pub mod Parsing
 pub mod ParsedCode

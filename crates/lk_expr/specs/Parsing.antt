@@ -142,14 +142,14 @@ abbrev pub grouped : Parsed → Parsed
 grouped (Some (a, token.Sign sign.Close ∷ rest)) = Some (Group a, rest)
 grouped found = None
 
-abbrev pub called : List ℕ → ParsedArgs → Parsed
-called name (Some (args, token.Sign sign.Close ∷ rest)) = Some (Call name args, rest)
-called name found = None
+abbrev pub called : List ℕ → ℕ → ParsedArgs → Parsed
+called name place (Some (args, token.Sign sign.Close ∷ rest)) = Some (Call name place args, rest)
+called name place found = None
 
 -- a column's name, or a function's before a bracket
-abbrev pub named : Parser → List ℕ → List Token → Parsed
-named operand name (token.Sign sign.Open ∷ rest) = called name (args_in operand rest)
-named operand name rest = Some (Name name, rest)
+abbrev pub named : Parser → List ℕ → ℕ → List Token → Parsed
+named operand name place (token.Sign sign.Open ∷ rest) = called name place (args_in operand rest)
+named operand name place rest = Some (Name name place, rest)
 
 abbrev pub ended_else : Branches → Parsed → Parsed
 ended_else branches (Some (a, token.Word keyword.End ∷ rest)) = Some (CaseElse branches a, rest)
@@ -174,7 +174,7 @@ leaf t rest = None
 
 abbrev pub atom_in : Parser → Parser
 atom_in whole [] = None
-atom_in whole (token.Name name ∷ rest) = named whole name rest
+atom_in whole (token.Name name place ∷ rest) = named whole name place rest
 atom_in whole (token.Word keyword.Case ∷ rest) = case_end whole (branches_in whole rest)
 atom_in whole (token.Sign sign.Open ∷ rest) = grouped (whole rest)
 atom_in whole (t ∷ rest) = leaf t rest

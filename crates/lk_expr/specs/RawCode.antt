@@ -13,12 +13,12 @@ abbrev mutual
   tree_of (raw.Text text) = Text text
   tree_of (raw.Truth b) = Truth b
   tree_of raw.Null = Null
-  tree_of (raw.Name name) = Name name
+  tree_of (raw.Name name place) = Name name place
   tree_of (raw.Column name) = Column name
   tree_of (raw.Field name) = Field name
   tree_of (raw.FieldOf view name) = FieldOf view name
   tree_of (raw.Group' p a) = Group (tree_of a)
-  tree_of (raw.Call' name p xs) = Call name (args_of xs)
+  tree_of (raw.Call' name place p xs) = Call name place (args_of xs)
   tree_of (raw.Case' p bs) = Case (branches_of bs)
   tree_of (raw.CaseElse' p bs q a) = CaseElse (branches_of bs) (tree_of a)
   tree_of (raw.Negate' p a) = Negate (tree_of a)

@@ -1,5 +1,5 @@
 -- The tokens of expressions, and how a text spells them.
-use Rattle.std.specs.Prelude.{◌≡◌, ◌⊎◌, ℕ, ◌==◌, Bool, true, false, ◌&&◌, ◌||◌, nat_eq, if◌then◌else◌, List, [], ◌∷◌, ◌++◌, map, codes, Option, Some, None, is_ok}
+use Rattle.std.specs.Prelude.{◌≡◌, ◌⊎◌, ℕ, ◌-◌, ◌==◌, Bool, true, false, ◌&&◌, ◌||◌, nat_eq, if◌then◌else◌, List, [], ◌∷◌, ◌++◌, length, map, codes, Option, Some, None, is_ok}
 use Rattle.std.specs.Char.{is_ascii_digit, is_ascii_lowercase, is_ascii_uppercase}
 use Rattle.std.specs.Cmp.Lexicographic.{pointwise}
 use Rattle.std.specs.List.{list_all, list_any}
@@ -118,29 +118,29 @@ IsColumnText name text rest =
 
 -- ---- tokens
 
--- the text spells the token, which ends before the rest
-abbrev pub IsTokenAt : Token → List ℕ → List ℕ → Type 0
-IsTokenAt (token.Word k) text rest = (is_bare text ≡ true) × (keyword_of text ≡ Some k) × (is_ended is_name_byte rest ≡ true)
-IsTokenAt (token.Name name) text rest = (text ≡ name) × (is_bare name ≡ true) × (keyword_of name ≡ None) × (is_ended is_name_byte rest ≡ true)
-IsTokenAt (token.Compare c) text rest = IsComparisonText c text × (is_ended (goes_on c) rest ≡ true)
-IsTokenAt (token.Sign s) text rest = text ≡ sign_text s
-IsTokenAt (token.Number number) text rest = (text ≡ number) × IsText unsigned_number number × (is_number number ≡ true) × (is_ended is_of_number rest ≡ true)
-IsTokenAt (token.Text characters) text rest = (text ≡ 39 ∷ (doubled characters ++ 39 ∷ [])) × (is_utf8 characters ≡ true) × (is_ended (nat_eq 39) rest ≡ true)
-IsTokenAt (token.Column name) text rest = (is_name name ≡ true) × IsColumnText name text rest
-IsTokenAt (token.Field name) text rest = (text ≡ codes "${" ++ (name ++ codes "}")) × (is_name name ≡ true) × (is_ended (nat_eq 46) rest ≡ true)
-IsTokenAt (token.FieldOf view name) text rest = (text ≡ codes "${" ++ (view ++ (codes "." ++ (name ++ codes "}")))) × (is_name view ≡ true) × (is_name name ≡ true)
+-- the text spells the token, which ends before the rest; of a text of so many bytes a name tells where it begins
+abbrev pub IsTokenAt : ℕ → Token → List ℕ → List ℕ → Type 0
+IsTokenAt whole (token.Word k) text rest = (is_bare text ≡ true) × (keyword_of text ≡ Some k) × (is_ended is_name_byte rest ≡ true)
+IsTokenAt whole (token.Name name place) text rest = (text ≡ name) × (is_bare name ≡ true) × (keyword_of name ≡ None) × (is_ended is_name_byte rest ≡ true) × (place ≡ whole - length (text ++ rest))
+IsTokenAt whole (token.Compare c) text rest = IsComparisonText c text × (is_ended (goes_on c) rest ≡ true)
+IsTokenAt whole (token.Sign s) text rest = text ≡ sign_text s
+IsTokenAt whole (token.Number number) text rest = (text ≡ number) × IsText unsigned_number number × (is_number number ≡ true) × (is_ended is_of_number rest ≡ true)
+IsTokenAt whole (token.Text characters) text rest = (text ≡ 39 ∷ (doubled characters ++ 39 ∷ [])) × (is_utf8 characters ≡ true) × (is_ended (nat_eq 39) rest ≡ true)
+IsTokenAt whole (token.Column name) text rest = (is_name name ≡ true) × IsColumnText name text rest
+IsTokenAt whole (token.Field name) text rest = (text ≡ codes "${" ++ (name ++ codes "}")) × (is_name name ≡ true) × (is_ended (nat_eq 46) rest ≡ true)
+IsTokenAt whole (token.FieldOf view name) text rest = (text ≡ codes "${" ++ (view ++ (codes "." ++ (name ++ codes "}")))) × (is_name view ≡ true) × (is_name name ≡ true)
 
 -- the text begins with spaces and the token, and what is behind is as given
-pub record IsLed (Behind : List ℕ → Type 0) (first : Token) (text : List ℕ) : Type 0 where
+pub record IsLed (whole : ℕ) (Behind : List ℕ → Type 0) (first : Token) (text : List ℕ) : Type 0 where
   pub gap : List ℕ
   pub front : List ℕ
   pub rest : List ℕ
   pub joined : text ≡ gap ++ (front ++ rest)
   pub spaces : list_all is_space gap ≡ true
-  pub spelled : IsTokenAt first front rest
+  pub spelled : IsTokenAt whole first front rest
   pub behind : Behind rest
 
--- the text is the tokens, with free spaces before each and behind the last
-abbrev pub IsSpelled : List Token → List ℕ → Type 0
-IsSpelled [] text = list_all is_space text ≡ true
-IsSpelled (t ∷ ts) text = IsLed (IsSpelled ts) t text
+-- the text is the tokens, with free spaces before each and behind the last; it ends a text of so many bytes
+abbrev pub IsSpelled : ℕ → List Token → List ℕ → Type 0
+IsSpelled whole [] text = list_all is_space text ≡ true
+IsSpelled whole (t ∷ ts) text = IsLed whole (IsSpelled whole ts) t text

@@ -206,9 +206,10 @@ pub(crate) fn next_branch<'a>(
 pub(crate) fn called<'a>(
     alloc: Global,
     name: &Bytes,
+    place: usize,
     found: ParsedArgs<'a>,
 ) -> Result<Parsed<'a>, NoMemory>
-    ensures { IfOk result (λ call. parsed call ≡ called name.now (parsed_args found.entry)) }
+    ensures { IfOk result (λ call. parsed call ≡ called name.now place (parsed_args found.entry)) }
 {
     let Some((args, behind)) = found else {
         return Ok(None);
@@ -216,7 +217,7 @@ pub(crate) fn called<'a>(
     match behind.split_first() {
         Some((Token::Sign(Sign::Close), rest)) => {
             let args = Box::new(alloc, args)?;
-            Ok(Some((RawExpr::Call(name.copy(alloc)?, args), rest)))
+            Ok(Some((RawExpr::Call(name.copy(alloc)?, place, args), rest)))
         }
         _ => Ok(None),
     }

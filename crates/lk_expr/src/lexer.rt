@@ -18,66 +18,70 @@ const WHITE: &[u8] = b" \t\n\r";
 // A token and what is behind it.
 type Found<'a> = Option<(Token, &'a [u8])>;
 
-// The tokens of expressions.
+// The tokens of a text of so many bytes.
 #[derive(Drop)]
-struct Tokens;
+struct Tokens {
+    whole: usize,
+}
 
 impl Lexer for Tokens {
     type Token = Token;
 
     ghost use Rattle.lk_expr.specs.Lexing.{first_token};
 
-    ghost first_token = { λ _. first_token };
+    ghost first_token = { λ tokens. first_token tokens.whole };
 
     fn first_token<'a>(
         &self,
         alloc: Global,
         text: &'a [u8],
     ) -> Result<Option<(Token, &'a [u8])>, NoMemory> {
-        first_token(alloc, text)
+        first_token(alloc, self.whole, text)
     }
 }
 
 // The tokens that a text spells, and none where it spells none.
 pub(crate) fn read_tokens(alloc: Global, text: &[u8]) -> Result<Option<Items<Token>>, NoMemory>
     // What is read is spelled so.
-    ensures spelled { IfOk result (λ found. IfSome found (λ tokens. IsSpelled tokens text.now)) }
+    ensures spelled { IfOk result (λ found. IfSome found (λ tokens. IsSpelled (length text.now) tokens text.now)) }
     // What is spelled is read, so a text spells no other tokens.
-    ensures every { IfOk result (λ found. (tokens : List Token) → IsSpelled tokens text.now → found ≡ Some tokens) }
+    ensures every { IfOk result (λ found. (tokens : List Token) → IsSpelled (length text.now) tokens text.now → found ≡ Some tokens) }
 {
     tokens_of(alloc, text)
 }
 
 fn tokens_of(alloc: Global, text: &[u8]) -> Result<Option<Items<Token>>, NoMemory>
-    ensures { IfOk result (λ found. found ≡ tokens_of white first_token text.now) }
+    ensures { IfOk result (λ found. found ≡ tokens_of white (first_token (length text.now)) text.now) }
 {
-    lk_grammar::read_tokens(alloc, &Tokens, WHITE, text)
+    let tokens = Tokens { whole: text.len() };
+    lk_grammar::read_tokens(alloc, &tokens, WHITE, text)
 }
 
 // The token in front of a text, and what is behind it.
 #[tactic(auto, unfolding(crate::specs::Lexing::first_token))]
-fn first_token(alloc: Global, text: &[u8]) -> Result<Found<'_>, NoMemory>
-    ensures { IfOk result (λ found. option_map (λ first. (first.0, first.1.now)) found ≡ first_token text.now) }
+fn first_token(alloc: Global, whole: usize, text: &[u8]) -> Result<Found<'_>, NoMemory>
+    ensures { IfOk result (λ found. option_map (λ first. (first.0, first.1.now)) found ≡ first_token whole text.now) }
 {
     match text.split_first() {
-        Some((first, behind)) => first_by(alloc, *first, text, behind),
+        Some((first, behind)) => first_by(alloc, whole, *first, text, behind),
         None => Ok(None),
     }
 }
 
 fn first_by<'a>(
     alloc: Global,
+    whole: usize,
     first: u8,
     text: &'a [u8],
     behind: &'a [u8],
 ) -> Result<Found<'a>, NoMemory>
     requires { text.now ≡ first ∷ behind.now }
-    ensures { IfOk result (λ found. option_map (λ first. (first.0, first.1.now)) found ≡ first_by first behind.now) }
+    ensures { IfOk result (λ found. option_map (λ first. (first.0, first.1.now)) found ≡ first_by whole first behind.now) }
 {
     if first.is_ascii_digit() {
         first_number(alloc, text)
     } else if is_letter(first) {
-        first_word(alloc, text)
+        first_word(alloc, whole, text)
     } else if first == b'\'' {
         first_text(alloc, behind)
     } else if first == b'$' {
@@ -126,15 +130,18 @@ fn first_name(text: &[u8]) -> Option<(&[u8], &[u8])>
 }
 
 // A keyword, or the name of a column or a function.
-fn first_word(alloc: Global, text: &[u8]) -> Result<Found<'_>, NoMemory>
-    ensures { IfOk result (λ found. option_map (λ first. (first.0, first.1.now)) found ≡ first_word text.now) }
+fn first_word(alloc: Global, whole: usize, text: &[u8]) -> Result<Found<'_>, NoMemory>
+    ensures { IfOk result (λ found. option_map (λ first. (first.0, first.1.now)) found ≡ first_word whole text.now) }
 {
     let Some((name, rest)) = first_name(text) else {
         return Ok(None);
     };
     match keyword_of(alloc, name)? {
         Some(keyword) => Ok(Some((Token::Word(keyword), rest))),
-        None => Ok(Some((Token::Name(Bytes::from_slice(alloc, name)?), rest))),
+        None => {
+            let place = whole.saturating_sub(text.len());
+            Ok(Some((Token::Name(Bytes::from_slice(alloc, name)?, place), rest)))
+        }
     }
 }
 

@@ -385,7 +385,7 @@ fn parse_atom<'a>(alloc: Global, left: u8, tokens: &'a [Token]) -> Result<Parsed
     ensures { IfOk result (λ found. parsed found ≡ atom_in (below left nest.Whole) tokens.now) }
 {
     match tokens.split_first() {
-        Some((Token::Name(name), rest)) => parse_named(alloc, left, name, rest),
+        Some((Token::Name(name, place), rest)) => parse_named(alloc, left, name, *place, rest),
         Some((Token::Word(Keyword::Case), rest)) => parse_case(alloc, left, rest),
         Some((Token::Sign(Sign::Open), rest)) => {
             grouped(alloc, parse_below(alloc, left, Nest::Whole, rest)?)
@@ -401,15 +401,16 @@ fn parse_named<'a>(
     alloc: Global,
     left: u8,
     name: &Bytes,
+    place: usize,
     tokens: &'a [Token],
 ) -> Result<Parsed<'a>, NoMemory>
-    ensures { IfOk result (λ found. parsed found ≡ named (below left nest.Whole) name.now tokens.now) }
+    ensures { IfOk result (λ found. parsed found ≡ named (below left nest.Whole) name.now place tokens.now) }
 {
     match tokens.split_first() {
         Some((Token::Sign(Sign::Open), inside)) => {
             let args = parse_args(alloc, left, Item::Whole, inside)?;
-            called(alloc, name, args)
+            called(alloc, name, place, args)
         }
-        _ => Ok(Some((RawExpr::Name(name.copy(alloc)?), tokens))),
+        _ => Ok(Some((RawExpr::Name(name.copy(alloc)?, place), tokens))),
     }
 }

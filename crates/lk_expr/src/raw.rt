@@ -23,8 +23,8 @@ pub enum RawExpr {
     Text(Text),
     Truth(bool),
     Null,
-    /// A bare name: a column of the view's own table.
-    Name(Bytes),
+    /// A bare name, a column of the view's own table, and the byte of the text that it begins at.
+    Name(Bytes, usize),
     /// A column of the view's own table, `${TABLE}.name`.
     Column(Bytes),
     /// A field of the same view, `${name}`.
@@ -33,8 +33,8 @@ pub enum RawExpr {
     FieldOf(Bytes, Bytes),
     /// An expression in brackets.
     Group(Box<RawExpr>),
-    /// A function's name and its arguments.
-    Call(Bytes, Box<RawArgs>),
+    /// A function's name, the byte of the text that it begins at, and the arguments.
+    Call(Bytes, usize, Box<RawArgs>),
     Case(Box<RawBranches>),
     /// A CASE with its ELSE.
     CaseElse(Box<RawBranches>, Box<RawExpr>),

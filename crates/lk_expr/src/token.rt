@@ -42,8 +42,8 @@ pub enum Sign {
 #[derive(Debug, Drop)]
 pub enum Token {
     Word(Keyword),
-    /// A name that is no keyword: a column's, or a function's.
-    Name(Bytes),
+    /// A name that is no keyword, a column's or a function's, and the byte of the text that it begins at.
+    Name(Bytes, usize),
     Compare(Comparison),
     Sign(Sign),
     /// A number as it is written.
