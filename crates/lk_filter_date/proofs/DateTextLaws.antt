@@ -12,7 +12,7 @@ use Rattle.lk_grammar.proofs.FormLaws.{both, and_both, one_of}
 use Rattle.lk_grammar.proofs.WordLaws.{one_text, text_one}
 use Rattle.lk_types.specs.Calendar.{is_leap}
 use Rattle.lk_types.specs.declared.filter.Days.{Days}
-use Rattle.lk_filter_date.specs.DateTexts.{month_length, days_of_year, days_of_month, days_of_day, is_separator, pair_value, numeral_from, first_numeral, first_part, day_at, month_at, year_at, year_of_digits, days_of, count_from, count_of, separator, pair, numeral, each_from, numerals, four_times, fourths, month_form, in_year_form, two_digits, some_digits, year_form, leap_form, date_form, count_form, date_literal}
+use Rattle.lk_filter_date.specs.DateTexts.{month_length, days_of_year, days_of_month, days_of_day, is_separator, pair_value, numeral_from, first_numeral, first_part, day_at, month_at, year_at, year_of_digits, days_of, count_from, count_of, separator, pair, numeral, each_from, numerals, four_times, fourths, month_form, in_year_form, leap_day_form, two_digits, some_digits, year_form, leap_form, date_form, count_form, date_literal}
 use Rattle.lk_filter_date.proofs.DateLiteralLaws.{same, is_false, digit_text, is_digit_from, digit_low, digit_high, text_digit, IsDigitHead}
 use Rattle.lk_grammar.proofs.ReadingLaws.{none_some, some_is, then_before}
 
@@ -176,9 +176,8 @@ bounded [] i h = omega arith
 bounded (n ∷ lengths) zero h = leb-true n 31 (both (nat_le n 31) (list_all (λ n. nat_le n 31) lengths) h).0
 bounded (n ∷ lengths) (suc i) h = bounded lengths i (both (nat_le n 31) (list_all (λ n. nat_le n 31) lengths) h).1
 
-length_bound : (leap : Bool) (month : ℕ) → month_length leap month ≤ 31
-length_bound true month = bounded (31 ∷ 29 ∷ 31 ∷ 30 ∷ 31 ∷ 30 ∷ 31 ∷ 31 ∷ 30 ∷ 31 ∷ 30 ∷ 31 ∷ []) (month - 1) refl
-length_bound false month = bounded (31 ∷ 28 ∷ 31 ∷ 30 ∷ 31 ∷ 30 ∷ 31 ∷ 31 ∷ 30 ∷ 31 ∷ 30 ∷ 31 ∷ []) (month - 1) refl
+length_bound : (month : ℕ) → month_length false month ≤ 31
+length_bound month = bounded (31 ∷ 28 ∷ 31 ∷ 30 ∷ 31 ∷ 30 ∷ 31 ∷ 31 ∷ 30 ∷ 31 ∷ 30 ∷ 31 ∷ []) (month - 1) refl
 
 no_shorter : (i : ℕ) (lengths : List ℕ) → slice_index (31 ∷ 28 ∷ lengths) i ≤ slice_index (31 ∷ 29 ∷ lengths) i
 no_shorter zero lengths = omega arith
@@ -186,11 +185,22 @@ no_shorter (suc zero) lengths = omega arith
 no_shorter (suc (suc i)) lengths = omega arith
 
 -- a month of a leap year is no shorter than of another
-in_leap : (leap this : Bool) (month : ℕ) → (leap ≡ true → this ≡ true) → month_length leap month ≤ month_length this month
-in_leap true true month h = omega arith
-in_leap true false month h = absurd (false≢true (h refl))
-in_leap false false month h = omega arith
-in_leap false true month h = no_shorter (month - 1) (31 ∷ 30 ∷ 31 ∷ 30 ∷ 31 ∷ 31 ∷ 30 ∷ 31 ∷ 30 ∷ 31 ∷ [])
+in_leap : (leap : Bool) (month : ℕ) → month_length false month ≤ month_length leap month
+in_leap false month = omega arith
+in_leap true month = no_shorter (month - 1) (31 ∷ 30 ∷ 31 ∷ 30 ∷ 31 ∷ 31 ∷ 30 ∷ 31 ∷ 30 ∷ 31 ∷ [])
+
+longer : (i day : ℕ) (lengths : List ℕ) → day ≤ slice_index (31 ∷ 29 ∷ lengths) i → (day ≤ slice_index (31 ∷ 28 ∷ lengths) i → ⊥) → (i ≡ 1) × (day ≡ 29)
+longer zero day lengths high over = absurd (over high)
+longer (suc zero) day lengths high over = (refl, omega (arith, high, over))
+longer (suc (suc i)) day lengths high over = absurd (over high)
+
+-- a day that a month has in leap years alone is 29 February
+only_leap : (leap : Bool) (month day : ℕ) → 1 ≤ month → day ≤ month_length leap month → (day ≤ month_length false month → ⊥) → (leap ≡ true) × (month ≡ 2) × (day ≡ 29)
+only_leap false month day low high over = absurd (over high)
+only_leap true month day low high over =
+    let d = longer (month - 1) day (31 ∷ 30 ∷ 31 ∷ 30 ∷ 31 ∷ 31 ∷ 30 ∷ 31 ∷ 30 ∷ 31 ∷ []) high over in
+    let second : month - 1 ≡ 1 = d.0 in
+    (refl, omega (arith, low, second), d.1)
 
 -- the days of what a text is
 abbrev IsSomeDays : Option Days → Type 0
@@ -199,33 +209,46 @@ IsSomeDays found = (days : Days) × (found ≡ Some days)
 within : (low n high : ℕ) → low ≤ n → n ≤ high → (nat_le low n && nat_le n high) ≡ true
 within low n high p q = and_both (nat_le low n) (nat_le n high) (le-leb low n p) (le-leb n high q)
 
-month_found : (leap : Bool) (year month : ℕ) (rest : List ℕ) → (leap ≡ true → is_leap year ≡ true) → 1 ≤ month → month ≤ 12 → IsText (optional (seq separator (numerals (month_length leap month)))) rest → (is_ended is_digit rest ≡ true) × IsSomeDays (month_at year (month, rest))
-month_found leap year month rest leaps low high (inr none) =
+month_found : (year month : ℕ) (rest : List ℕ) → 1 ≤ month → month ≤ 12 → IsText (optional (seq separator (numerals (month_length false month)))) rest → (is_ended is_digit rest ≡ true) × IsSomeDays (month_at year (month, rest))
+month_found year month rest low high (inr none) =
     subst (λ z. (is_ended is_digit z ≡ true) × IsSomeDays (month_at year (month, z))) (sym none) (refl, (days_of_month year month, rw (within 1 month 12 low high) refl))
-month_found leap year month rest leaps low high (inl h) =
+month_found year month rest low high (inl h) =
     let s = text_separator h.front h.first in
-    let e = each_back numeral 1 (month_length leap month) h.back h.second in
+    let e = each_back numeral 1 (month_length false month) h.back h.second in
     let from : 1 ≤ e.n = e.low in
-    let upto : e.n < 1 + month_length leap month = e.high in
-    let short : month_length leap month ≤ 31 = length_bound leap month in
-    let fits : e.n ≤ month_length (is_leap year) month = omega (arith, upto, in_leap leap (is_leap year) month leaps) in
+    let upto : e.n < 1 + month_length false month = e.high in
+    let short : month_length false month ≤ 31 = length_bound month in
+    let fits : e.n ≤ month_length (is_leap year) month = omega (arith, upto, in_leap (is_leap year) month) in
     let whole : rest ≡ s.b ∷ h.back = h.joined ∙ ap (λ z. z ++ h.back) s.is in
     let read : first_numeral h.back ≡ Some (e.n, []) = ap first_numeral (sym (append-nil h.back)) ∙ numeral_found e.n h.back [] (omega (arith, upto, short)) e.spelled refl in
     subst (λ z. (is_ended is_digit z ≡ true) × IsSomeDays (month_at year (month, z))) (sym whole)
     (rw s.ends refl, (days_of_day year month e.n, rw (within 1 month 12 low high, s.separates, read, within 1 e.n (month_length (is_leap year) month) from fits) refl))
 
 -- what is behind a year is a month or a day of it
-year_found : (leap : Bool) (year : ℕ) (text : List ℕ) → (leap ≡ true → is_leap year ≡ true) → IsText (in_year_form leap) text → IsSomeDays (year_at year text)
-year_found leap year text leaps h =
+year_found : (year : ℕ) (text : List ℕ) → IsText in_year_form text → IsSomeDays (year_at year text)
+year_found year text h =
     let s = text_separator h.front h.first in
-    let e = each_back (month_form leap) 1 12 h.back h.second in
+    let e = each_back month_form 1 12 h.back h.second in
     let m = e.spelled in
     let from : 1 ≤ e.n = e.low in
     let upto : e.n < 1 + 12 = e.high in
-    let d = month_found leap year e.n m.back leaps from (omega (arith, upto)) m.second in
+    let d = month_found year e.n m.back from (omega (arith, upto)) m.second in
     let whole : text ≡ s.b ∷ (m.front ++ m.back) = h.joined ∙ ap (λ z. z ++ h.back) s.is ∙ ap (λ z. s.b ∷ z) m.joined in
     let read : first_numeral (m.front ++ m.back) ≡ Some (e.n, m.back) = numeral_found e.n m.front m.back (omega (arith, upto)) m.first d.0 in
     subst (λ z. IsSomeDays (year_at year z)) (sym whole) (d.1.0, rw (s.separates, read) d.1.1)
+
+-- and where the year is a leap year, 29 February
+leap_day_found : (year : ℕ) (text : List ℕ) → is_leap year ≡ true → IsText leap_day_form text → IsSomeDays (year_at year text)
+leap_day_found year text leap h =
+    let s = text_separator h.front h.first in
+    let m = h.second in
+    let d = m.second in
+    let t = text_separator d.front d.first in
+    let behind : m.back ≡ t.b ∷ d.back = d.joined ∙ ap (λ z. z ++ d.back) t.is in
+    let whole : text ≡ s.b ∷ (m.front ++ (t.b ∷ d.back)) = h.joined ∙ ap (λ z. z ++ h.back) s.is ∙ ap (λ z. s.b ∷ z) (m.joined ∙ ap (λ z. m.front ++ z) behind) in
+    let month : first_numeral (m.front ++ (t.b ∷ d.back)) ≡ Some (2, t.b ∷ d.back) = numeral_found 2 m.front (t.b ∷ d.back) (omega arith) m.first (rw t.ends refl) in
+    let day : first_numeral d.back ≡ Some (29, []) = ap first_numeral (sym (append-nil d.back)) ∙ numeral_found 29 d.back [] (omega arith) (inl d.second) refl in
+    subst (λ z. IsSomeDays (year_at year z)) (sym whole) (days_of_day year 2 29, rw (s.separates, month, t.separates, day, leap) refl)
 
 record IsPartText (n : ℕ) (rest text : List ℕ) : Type 0 where
   b : ℕ
@@ -254,44 +277,83 @@ day_before : (year month : ℕ) (day : ℕ × List ℕ) (days : Days) → day_at
 day_before year month (day, []) days e = let m = met 1 day (month_length (is_leap year) month) _ days e in (refl, m.0, m.1)
 day_before year month (day, b ∷ rest) days e = absurd (none_some e)
 
+-- a day of a month behind a separator
+record IsDayRest (year month : ℕ) (rest : List ℕ) : Type 0 where
+  b : ℕ
+  behind : List ℕ
+  is : rest ≡ b ∷ behind
+  separates : is_separator b ≡ true
+  day : ℕ
+  low : 1 ≤ day
+  high : day ≤ month_length (is_leap year) month
+  spelled : IsText (numeral day) behind
+
 record IsMonthRest (year month : ℕ) (rest : List ℕ) : Type 0 where
   low : 1 ≤ month
   high : month ≤ 12
-  spelled : IsText (optional (seq separator (numerals (month_length (is_leap year) month)))) rest
+  day : (rest ≡ []) ⊎ IsDayRest year month rest
 
 month_before : (year : ℕ) (month : ℕ × List ℕ) (days : Days) → month_at year month ≡ Some days → IsMonthRest year month.0 month.1
-month_before year (month, []) days e = let m = met 1 month 12 _ days e in record { low = m.0; high = m.1; spelled = inr refl }
+month_before year (month, []) days e = let m = met 1 month 12 _ days e in record { low = m.0; high = m.1; day = inl refl }
 month_before year (month, b ∷ rest) days e =
     let m = met 1 month 12 (option_and_then (day_at year month) (first_part (b ∷ rest))) days e in
-    record { low = m.0; high = m.1; spelled = then_before (day_at year month) (first_part (b ∷ rest)) days m.2 (λ day part found. day_text day part (day_before year month day days found)) }
+    record { low = m.0; high = m.1; day = then_before (day_at year month) (first_part (b ∷ rest)) days m.2 (λ day part found. inr (day_rest day part (day_before year month day days found))) }
   where
-    day_text : (day : ℕ × List ℕ) → first_part (b ∷ rest) ≡ Some day → (day.1 ≡ []) × (1 ≤ day.0) × (day.0 ≤ month_length (is_leap year) month) → IsText (optional (seq separator (numerals (month_length (is_leap year) month)))) (b ∷ rest)
-    day_text day part d =
+    day_rest : (day : ℕ × List ℕ) → first_part (b ∷ rest) ≡ Some day → (day.1 ≡ []) × (1 ≤ day.0) × (day.0 ≤ month_length (is_leap year) month) → IsDayRest year month (b ∷ rest)
+    day_rest day part d =
         let p = part_before (b ∷ rest) day part in
-        let low : 1 ≤ day.0 = d.1 in
-        let high : day.0 ≤ month_length (is_leap year) month = d.2 in
         let alone : p.behind ≡ p.number.front = p.number.joined ∙ ap (λ z. p.number.front ++ z) d.0 ∙ append-nil p.number.front in
-        inl (record {
+        record { b = p.b; behind = p.behind; is = p.is; separates = p.separates; day = day.0; low = d.1; high = d.2; spelled = subst (IsText (numeral day.0)) (sym alone) p.number.spelled }
+
+-- what is behind a year is a month or a day of it, or 29 February where it is a leap year
+year_before : (year : ℕ) (text : List ℕ) (days : Days) → option_and_then (month_at year) (first_part text) ≡ Some days → (IsText in_year_form text) ⊎ ((is_leap year ≡ true) × IsText leap_day_form text)
+year_before year text days e =
+    then_before (month_at year) (first_part text) days e (λ month part found. of_month month (part_before text month part) (month_before year month days found))
+  where
+    in_year : (month : ℕ × List ℕ) → IsPartText month.0 month.1 text → 1 ≤ month.0 → month.0 ≤ 12 → IsText (optional (seq separator (numerals (month_length false month.0)))) month.1 → IsText in_year_form text
+    in_year month p low high day =
+        record {
           front = p.b ∷ [];
           back = p.behind;
           joined = p.is;
           first = separator_text p.b p.separates;
-          second = each_there numeral 1 (month_length (is_leap year) month) day.0 p.behind low (omega (arith, high)) (subst (IsText (numeral day.0)) (sym alone) p.number.spelled);
-        })
+          second = each_there month_form 1 12 month.0 p.behind low (omega (arith, high)) (record { front = p.number.front; back = month.1; joined = p.number.joined; first = p.number.spelled; second = day });
+        }
 
-year_before : (year : ℕ) (text : List ℕ) (days : Days) → option_and_then (month_at year) (first_part text) ≡ Some days → IsText (in_year_form (is_leap year)) text
-year_before year text days e =
-    then_before (month_at year) (first_part text) days e (λ month part found.
-    let p = part_before text month part in
-    let m = month_before year month days found in
-    let high : month.0 ≤ 12 = m.high in
-    record {
-      front = p.b ∷ [];
-      back = p.behind;
-      joined = p.is;
-      first = separator_text p.b p.separates;
-      second = each_there (month_form (is_leap year)) 1 12 month.0 p.behind m.low (omega (arith, high)) (record { front = p.number.front; back = month.1; joined = p.number.joined; first = p.number.spelled; second = m.spelled });
-    })
+    in_two_digits : (text : List ℕ) → IsText (numeral 29) text → IsText (pair 29) text
+    in_two_digits text (inl h) = h
+    in_two_digits text (inr h) = absurd h
+
+    leap_day : (month : ℕ × List ℕ) → IsPartText month.0 month.1 text → (d : IsDayRest year month.0 month.1) → (month.0 ≡ 2) × (d.day ≡ 29) → IsText leap_day_form text
+    leap_day month p d is =
+        record {
+          front = p.b ∷ [];
+          back = p.behind;
+          joined = p.is;
+          first = separator_text p.b p.separates;
+          second = record {
+            front = p.number.front;
+            back = month.1;
+            joined = p.number.joined;
+            first = subst (λ z. IsText (numeral z) p.number.front) is.0 p.number.spelled;
+            second = record { front = d.b ∷ []; back = d.behind; joined = d.is; first = separator_text d.b d.separates; second = in_two_digits d.behind (subst (λ z. IsText (numeral z) d.behind) is.1 d.spelled) };
+          };
+        }
+
+    of_month : (month : ℕ × List ℕ) → IsPartText month.0 month.1 text → IsMonthRest year month.0 month.1 → (IsText in_year_form text) ⊎ ((is_leap year ≡ true) × IsText leap_day_form text)
+    of_month month p m =
+        elim m.day [
+          | inl none ↦ inl (in_year month p m.low m.high (inr none))
+          | inr d ↦
+              elim (nat_le d.day (month_length false month.0)) as (λ t. nat_le d.day (month_length false month.0) ≡ t → (IsText in_year_form text) ⊎ ((is_leap year ≡ true) × IsText leap_day_form text)) [
+                | true ↦ λ t.
+                    let high : d.day ≤ month_length false month.0 = leb-true d.day (month_length false month.0) t in
+                    inl (in_year month p m.low m.high (inl (record { front = d.b ∷ []; back = d.behind; joined = d.is; first = separator_text d.b d.separates; second = each_there numeral 1 (month_length false month.0) d.day d.behind d.low (omega (arith, high)) d.spelled })))
+                | false ↦ λ t.
+                    let only = only_leap (is_leap year) month.0 d.day m.low d.high (λ h. false≢true (sym t ∙ le-leb d.day (month_length false month.0) h)) in
+                    inr (only.0, leap_day month p d (only.1, only.2))
+              ] refl
+        ]
 
 -- ---- years
 
@@ -499,13 +561,13 @@ date_read text (inl h) =
     let year = 100 * pair_value y.a y.b + pair_value y.c y.d in
     date_of_year text h.front h.back h.joined y
     (elim h.second [
-      | inl more ↦ year_found false year h.back (λ e. absurd (false≢true e)) more
+      | inl more ↦ year_found year h.back more
       | inr none ↦ subst (λ z. IsSomeDays (year_at year z)) (sym none) (days_of_year year, refl)
     ])
 date_read text (inr h) =
     let y = text_leap h.front h.first in
     let year = 100 * pair_value y.year.a y.year.b + pair_value y.year.c y.year.d in
-    date_of_year text h.front h.back h.joined y.year (year_found true year h.back (λ e. y.leap) h.second)
+    date_of_year text h.front h.back h.joined y.year (leap_day_found year h.back y.leap h.second)
 
 pub date_spelled : (text : List ℕ) (days : Days) → days_of text ≡ Some days → IsText date_form text
 unfolding date_form
@@ -519,10 +581,10 @@ date_spelled (a ∷ b ∷ c ∷ d ∷ text) days e =
     with_year : (year : ℕ) → AreYearDigits a b c d year → (text : List ℕ) → year_at year text ≡ Some days → IsText date_form (a ∷ b ∷ c ∷ d ∷ text)
     with_year year y [] found = inl (record { front = a ∷ b ∷ c ∷ d ∷ []; back = []; joined = refl; first = year_text a b c d year y; second = inr refl })
     with_year year y (s ∷ text) found =
-        elim (is_leap year) as (λ l. is_leap year ≡ l → IsText (in_year_form l) (s ∷ text) → IsText date_form (a ∷ b ∷ c ∷ d ∷ s ∷ text)) [
-          | true ↦ λ l rest. inr (record { front = a ∷ b ∷ c ∷ d ∷ []; back = s ∷ text; joined = refl; first = leap_text a b c d year y (subst (λ z. is_leap z ≡ true) (sym y.is) l); second = rest })
-          | false ↦ λ l rest. inl (record { front = a ∷ b ∷ c ∷ d ∷ []; back = s ∷ text; joined = refl; first = year_text a b c d year y; second = inl rest })
-        ] refl (year_before year (s ∷ text) days found)
+        elim (year_before year (s ∷ text) days found) [
+          | inl rest ↦ inl (record { front = a ∷ b ∷ c ∷ d ∷ []; back = s ∷ text; joined = refl; first = year_text a b c d year y; second = inl rest })
+          | inr rest ↦ inr (record { front = a ∷ b ∷ c ∷ d ∷ []; back = s ∷ text; joined = refl; first = leap_text a b c d year y (subst (λ z. is_leap z ≡ true) (sym y.is) rest.0); second = rest.1 })
+        ]
 
 -- ---- counts
 
@@ -544,25 +606,19 @@ last_digit value text small (inl h) =
     let d = text_digit text h in
     subst (λ z. IsSomeCount (count_from value z)) (sym d.alone) (one_more value d.value [] d.is small (10 * value + (d.value - 48), refl))
 
-two_digits_more : (value : ℕ) (text : List ℕ) → value ≤ 99 → IsText (seq (optional digit) (optional digit)) text → IsSomeCount (count_from value text)
-two_digits_more value text small h =
-    elim h.first [
-      | inr none ↦ subst (λ z. IsSomeCount (count_from value z)) (sym (h.joined ∙ ap (λ z. z ++ h.back) none)) (last_digit value h.back (omega (arith, small)) h.second)
-      | inl first ↦
-          let d = text_digit h.front first in
-          let high : d.value ≤ 57 = digit_high d.value d.is in
-          subst (λ z. IsSomeCount (count_from value z)) (sym (h.joined ∙ ap (λ z. z ++ h.back) d.alone)) (one_more value d.value h.back d.is (omega (arith, small)) (last_digit (10 * value + (d.value - 48)) h.back (omega (arith, small, high)) h.second))
-    ]
+last_two : (value : ℕ) (text : List ℕ) → value ≤ 99 → IsText (optional (seq digit (optional digit))) text → IsSomeCount (count_from value text)
+last_two value text small (inr none) = no_more value text none
+last_two value text small (inl h) =
+    let d = text_digit h.front h.first in
+    let high : d.value ≤ 57 = digit_high d.value d.is in
+    subst (λ z. IsSomeCount (count_from value z)) (sym (h.joined ∙ ap (λ z. z ++ h.back) d.alone)) (one_more value d.value h.back d.is (omega (arith, small)) (last_digit (10 * value + (d.value - 48)) h.back (omega (arith, small, high)) h.second))
 
-three_digits_more : (value : ℕ) (text : List ℕ) → value ≤ 9 → IsText (seq (optional digit) (seq (optional digit) (optional digit))) text → IsSomeCount (count_from value text)
-three_digits_more value text small h =
-    elim h.first [
-      | inr none ↦ subst (λ z. IsSomeCount (count_from value z)) (sym (h.joined ∙ ap (λ z. z ++ h.back) none)) (two_digits_more value h.back (omega (arith, small)) h.second)
-      | inl first ↦
-          let d = text_digit h.front first in
-          let high : d.value ≤ 57 = digit_high d.value d.is in
-          subst (λ z. IsSomeCount (count_from value z)) (sym (h.joined ∙ ap (λ z. z ++ h.back) d.alone)) (one_more value d.value h.back d.is (omega (arith, small)) (two_digits_more (10 * value + (d.value - 48)) h.back (omega (arith, small, high)) h.second))
-    ]
+last_three : (value : ℕ) (text : List ℕ) → value ≤ 9 → IsText (optional (seq digit (optional (seq digit (optional digit))))) text → IsSomeCount (count_from value text)
+last_three value text small (inr none) = no_more value text none
+last_three value text small (inl h) =
+    let d = text_digit h.front h.first in
+    let high : d.value ≤ 57 = digit_high d.value d.is in
+    subst (λ z. IsSomeCount (count_from value z)) (sym (h.joined ∙ ap (λ z. z ++ h.back) d.alone)) (one_more value d.value h.back d.is (omega (arith, small)) (last_two (10 * value + (d.value - 48)) h.back (omega (arith, small, high)) h.second))
 
 ten_thousand : (text : List ℕ) → IsText (seq (one 49) (seq (one 48) (seq (one 48) (seq (one 48) (one 48))))) text → text ≡ 49 ∷ 48 ∷ 48 ∷ 48 ∷ 48 ∷ []
 ten_thousand text h =
@@ -582,7 +638,7 @@ count_read text (inl h) =
     let low : 49 ≤ first.value = first.from in
     let high : first.value ≤ 57 = first.upto in
     let no_zero : nat_eq first.value 48 ≡ false = is_false (nat_eq first.value 48) (λ e. let is : first.value ≡ 48 = same first.value 48 e in omega (arith, low, is)) in
-    let rest = three_digits_more (first.value - 48) h.back (omega (arith, high)) h.second in
+    let rest = last_three (first.value - 48) h.back (omega (arith, high)) h.second in
     subst (λ z. IsSomeCount (count_of z)) (sym (h.joined ∙ ap (λ z. z ++ h.back) first.alone)) (rest.0, rw (is_digit_from first.value (omega (arith, low)) high, no_zero) rest.1)
 count_read text (inr h) = subst (λ z. IsSomeCount (count_of z)) (sym (ten_thousand text h)) (10000, refl)
 
@@ -599,19 +655,10 @@ more_before value b text n e =
       | false ↦ λ t e. absurd (none_some e)
     ] refl e
 
-abbrev up_to_one : Form
-up_to_one = optional digit
+joined_digit : (F : Form) (b : ℕ) (text : List ℕ) → is_digit b ≡ true → IsText F text → IsText (optional (seq digit F)) (b ∷ text)
+joined_digit F b text d h = inl (record { front = b ∷ []; back = text; joined = refl; first = digit_text b d; second = h })
 
-abbrev up_to_two : Form
-up_to_two = seq (optional digit) up_to_one
-
-joined_digit : (F : Form) (b : ℕ) (text : List ℕ) → is_digit b ≡ true → IsText F text → IsText (seq (optional digit) F) (b ∷ text)
-joined_digit F b text d h = record { front = b ∷ []; back = text; joined = refl; first = inl (digit_text b d); second = h }
-
-skipped_digit : (F : Form) (text : List ℕ) → IsText F text → IsText (seq (optional digit) F) text
-skipped_digit F text h = record { front = []; back = text; joined = refl; first = inr refl; second = h }
-
-first_digit : (a : ℕ) (text : List ℕ) → 49 ≤ a → a ≤ 57 → IsText (seq (optional digit) (seq (optional digit) (optional digit))) text → IsText count_form (a ∷ text)
+first_digit : (a : ℕ) (text : List ℕ) → 49 ≤ a → a ≤ 57 → IsText (optional (seq digit (optional (seq digit (optional digit))))) text → IsText count_form (a ∷ text)
 first_digit a text low high h = inl (record { front = a ∷ []; back = text; joined = refl; first = record { value = a; from = low; upto = high; alone = refl }; second = h })
 
 same_bytes : (a b c d e : ℕ) → a ≡ 49 → b ≡ 48 → c ≡ 48 → d ≡ 48 → e ≡ 48 → IsText count_form (a ∷ b ∷ c ∷ d ∷ e ∷ [])
@@ -620,19 +667,19 @@ same_bytes a b c d e p q r s t =
 
 -- the digits behind the first one
 digits_before : (a : ℕ) (text : List ℕ) (n : ℕ) → 49 ≤ a → a ≤ 57 → count_from (a - 48) text ≡ Some n → IsText count_form (a ∷ text)
-digits_before a [] n low high e = first_digit a [] low high (skipped_digit up_to_two [] (skipped_digit up_to_one [] (inr refl)))
+digits_before a [] n low high e = first_digit a [] low high (inr refl)
 digits_before a (b ∷ []) n low high e =
     let m = more_before (a - 48) b [] n e in
-    first_digit a (b ∷ []) low high (joined_digit up_to_two b [] m.digit (skipped_digit up_to_one [] (inr refl)))
+    first_digit a (b ∷ []) low high (joined_digit (optional (seq digit (optional digit))) b [] m.digit (inr refl))
 digits_before a (b ∷ c ∷ []) n low high e =
     let m = more_before (a - 48) b (c ∷ []) n e in
     let k = more_before (10 * (a - 48) + (b - 48)) c [] n m.rest in
-    first_digit a (b ∷ c ∷ []) low high (joined_digit up_to_two b (c ∷ []) m.digit (joined_digit up_to_one c [] k.digit (inr refl)))
+    first_digit a (b ∷ c ∷ []) low high (joined_digit (optional (seq digit (optional digit))) b (c ∷ []) m.digit (joined_digit (optional digit) c [] k.digit (inr refl)))
 digits_before a (b ∷ c ∷ d ∷ []) n low high e =
     let m = more_before (a - 48) b (c ∷ d ∷ []) n e in
     let k = more_before (10 * (a - 48) + (b - 48)) c (d ∷ []) n m.rest in
     let j = more_before (10 * (10 * (a - 48) + (b - 48)) + (c - 48)) d [] n k.rest in
-    first_digit a (b ∷ c ∷ d ∷ []) low high (joined_digit up_to_two b (c ∷ d ∷ []) m.digit (joined_digit up_to_one c (d ∷ []) k.digit (inl (digit_text d j.digit))))
+    first_digit a (b ∷ c ∷ d ∷ []) low high (joined_digit (optional (seq digit (optional digit))) b (c ∷ d ∷ []) m.digit (joined_digit (optional digit) c (d ∷ []) k.digit (inl (digit_text d j.digit))))
 digits_before a (b ∷ c ∷ d ∷ f ∷ text) n low high e =
     let m = more_before (a - 48) b (c ∷ d ∷ f ∷ text) n e in
     let k = more_before (10 * (a - 48) + (b - 48)) c (d ∷ f ∷ text) n m.rest in

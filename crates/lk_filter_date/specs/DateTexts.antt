@@ -1,5 +1,5 @@
 -- How a date and a count are written in filters of dates, and the days that a date is.
-use Rattle.std.specs.Prelude.{ℕ, zero, suc, ◌+◌, ◌-◌, ◌*◌, ◌/◌, ◌%◌, Bool, true, false, not, ◌&&◌, ◌||◌, nat_eq, nat_le, nat_lt, List, [], ◌∷◌, slice_index, Option, Some, None, if◌then◌else◌}
+use Rattle.std.specs.Prelude.{ℕ, zero, suc, ◌+◌, ◌-◌, ◌*◌, ◌/◌, ◌%◌, Bool, false, not, ◌&&◌, ◌||◌, nat_eq, nat_le, nat_lt, List, [], ◌∷◌, slice_index, Option, Some, None, if◌then◌else◌}
 use Rattle.std.specs.Option.{option_and_then}
 use Rattle.lk_grammar.specs.Forms.{Form, nothing, byte, seq, either, many, optional}
 use Rattle.lk_grammar.specs.Words.{one}
@@ -9,7 +9,7 @@ use Rattle.lk_types.specs.declared.filter.Days.{Days}
 
 -- ---- the days of a year, of a month and of a day
 
--- how many days a month has
+-- how many days a month has, in a leap year or not (Gregorian calendar)
 abbrev pub month_length : Bool → ℕ → ℕ
 month_length leap month = slice_index (31 ∷ (if leap then 29 else 28) ∷ 31 ∷ 30 ∷ 31 ∷ 30 ∷ 31 ∷ 31 ∷ 30 ∷ 31 ∷ 30 ∷ 31 ∷ []) (month - 1)
 
@@ -71,7 +71,7 @@ year_of_digits a b c d =
     if is_digit a && is_digit b && is_digit c && is_digit d && nat_lt 0 (100 * pair_value a b + pair_value c d)
     then Some (100 * pair_value a b + pair_value c d) else None
 
--- the days of the date that a text is
+-- the days of the date that a text is: a year, a month or a day (Looker, filter expressions: date)
 abbrev pub days_of : List ℕ → Option Days
 days_of (a ∷ b ∷ c ∷ d ∷ text) = option_and_then (λ year. year_at year text) (year_of_digits a b c d)
 days_of text = None
@@ -84,7 +84,7 @@ count_from value [] = Some value
 count_from value (b ∷ text) =
     if is_digit b && nat_le (10 * value + (b - 48)) 10000 then count_from (10 * value + (b - 48)) text else None
 
--- the number from 1 to 10,000 that a text is, without a leading 0
+-- the number from 1 to 10,000 that a text is, without a leading 0 (lookd)
 abbrev pub count_of : List ℕ → Option ℕ
 count_of [] = None
 count_of (a ∷ text) = if is_digit a && not (nat_eq a 48) then count_from (a - 48) text else None
@@ -138,13 +138,17 @@ four_times n = pair (4 * n)
 abbrev pub fourths : Form
 fourths = each_from four_times 1 24
 
--- a month, or a day of it
-abbrev pub month_form : Bool → ℕ → Form
-month_form leap month = seq (numeral month) (optional (seq separator (numerals (month_length leap month))))
+-- a month, or a day of it that it has in each year
+abbrev pub month_form : ℕ → Form
+month_form month = seq (numeral month) (optional (seq separator (numerals (month_length false month))))
 
 -- a month of a year or a day of one, with a separator before it
-abbrev pub in_year_form : Bool → Form
-in_year_form leap = seq separator (each_from (month_form leap) 1 12)
+abbrev pub in_year_form : Form
+in_year_form = seq separator (each_from month_form 1 12)
+
+-- 29 February, with a separator before it
+abbrev pub leap_day_form : Form
+leap_day_form = seq separator (seq (numeral 2) (seq separator (pair 29)))
 
 abbrev pub two_digits : Form
 two_digits = seq digit digit
@@ -161,12 +165,12 @@ year_form = either (seq some_digits two_digits) (seq (pair 0) some_digits)
 abbrev pub leap_form : Form
 leap_form = either (seq two_digits fourths) (seq fourths (pair 0))
 
--- a year, a month or a day; those of a leap year stand beside the others
+-- a year, or a month or day of it, or 29 February of a leap year
 unfoldable pub date_form : Form
-date_form = either (seq year_form (optional (in_year_form false))) (seq leap_form (in_year_form true))
+date_form = either (seq year_form (optional in_year_form)) (seq leap_form leap_day_form)
 
 -- one digit to four, of which the first is not 0, or 10000
 abbrev pub count_form : Form
 count_form =
-    either (seq (byte 49 57) (seq (optional digit) (seq (optional digit) (optional digit))))
+    either (seq (byte 49 57) (optional (seq digit (optional (seq digit (optional digit))))))
     (seq (one 49) (seq (one 48) (seq (one 48) (seq (one 48) (one 48)))))

@@ -13,7 +13,7 @@ use Rattle.lk_types.specs.declared.filter.Period.{Period}
 use Rattle.lk_types.specs.declared.filter.Period.TheVariants.{Day, Week, Month, Quarter, Year}
 use Rattle.lk_types.specs.declared.filter.Test.{Test}
 use Rattle.lk_types.specs.declared.filter.Test.TheVariants as test
-use Rattle.lk_grammar.specs.Listed.{with_own, further_tokens, listed}
+use Rattle.lk_grammar.specs.Listed.{further_tokens, listed, with_own}
 use Rattle.lk_filter_date.specs.DateTexts.{days_of, count_of, date_literal, date_form, count_form}
 use Rattle.lk_filter_date.specs.declared.words.DateWord.{DateWord}
 use Rattle.lk_filter_date.specs.declared.words.DateWord.TheVariants as word
@@ -75,19 +75,19 @@ abbrev pub date_tokens : List DateItem → List DateToken
 date_tokens [] = []
 date_tokens (x ∷ more) = item_tokens x ++ further_tokens more_tokens more
 
--- the text spells the items, whatever dates and counts are read
+-- the text spells the items, whether or not their dates and counts read
 pub record IsDateText (items : List DateItem) (text : List ℕ) : Type 0 where
   pub spelled : IsText (tokens_form (32 ∷ []) (token_form letters_of) (date_tokens items)) text
   pub literals : AllByRecursion (IsLiteralOf date_literal) (date_tokens items)
 
 -- ---- what they test
 
--- there is no current or last day by these words
+-- the unit that `this` and `last` don't take
 abbrev pub is_day : Period → Bool
 is_day Day = true
 is_day period = false
 
--- the test of an item, where its dates and its count read
+-- the test of an item, where its dates and its count read (Looker, filter expressions: date)
 abbrev pub item_test : DateItem → Option Test
 item_test (item.In date) = option_map test.In (days_of date)
 item_test (item.Before date) = option_map test.Before (days_of date)

@@ -1,7 +1,5 @@
 ghost use Rattle.std.specs.Prelude.{◌≡◌, ◌≤◌, ◌<◌, ◌+◌, IfOk};
-ghost use Rattle.lk_grammar.specs.Forms.{optional};
-ghost use Rattle.lk_grammar.specs.Numbers.{digit};
-ghost use Rattle.lk_filter_date.specs.DateTexts.{separator, pair, numeral, each_from, numerals, four_times, fourths, month_form, in_year_form, two_digits, some_digits, year_form, leap_form, date_form, count_form};
+ghost use Rattle.lk_filter_date.specs.DateTexts.{separator, pair, numeral, each_from, numerals, four_times, fourths, month_form, in_year_form, leap_day_form, two_digits, some_digits, year_form, leap_form, date_form, count_form};
 
 use crate::written::month_length;
 use lk_grammar::Form;
@@ -13,9 +11,9 @@ use std::alloc::Global;
 pub(crate) fn date_form(alloc: Global) -> Result<Form, NoMemory>
     ensures { IfOk result (λ form. form ≡ date_form) }
 {
-    let part = Form::optional(alloc, in_year_form(alloc, false)?)?;
+    let part = Form::optional(alloc, in_year_form(alloc)?)?;
     let any_year = Form::seq(alloc, year_form(alloc)?, part)?;
-    let leap_year = Form::seq(alloc, leap_form(alloc)?, in_year_form(alloc, true)?)?;
+    let leap_year = Form::seq(alloc, leap_form(alloc)?, leap_day_form(alloc)?)?;
     Form::either(alloc, any_year, leap_year)
 }
 
@@ -23,9 +21,12 @@ pub(crate) fn date_form(alloc: Global) -> Result<Form, NoMemory>
 pub(crate) fn count_form(alloc: Global) -> Result<Form, NoMemory>
     ensures { IfOk result (λ form. form ≡ count_form) }
 {
-    let two_more = Form::seq(alloc, optional_digit(alloc)?, optional_digit(alloc)?)?;
-    let three_more = Form::seq(alloc, optional_digit(alloc)?, two_more)?;
-    let up_to_four = Form::seq(alloc, Form::range(b'1', b'9'), three_more)?;
+    let fourth = Form::optional(alloc, Form::range(b'0', b'9'))?;
+    let third = Form::seq(alloc, Form::range(b'0', b'9'), fourth)?;
+    let third = Form::optional(alloc, third)?;
+    let second = Form::seq(alloc, Form::range(b'0', b'9'), third)?;
+    let second = Form::optional(alloc, second)?;
+    let up_to_four = Form::seq(alloc, Form::range(b'1', b'9'), second)?;
     let zeros = Form::seq(alloc, Form::byte(b'0'), Form::byte(b'0'))?;
     let zeros = Form::seq(alloc, Form::byte(b'0'), zeros)?;
     let zeros = Form::seq(alloc, Form::byte(b'0'), zeros)?;
@@ -33,35 +34,37 @@ pub(crate) fn count_form(alloc: Global) -> Result<Form, NoMemory>
     Form::either(alloc, up_to_four, ten_thousand)
 }
 
-fn optional_digit(alloc: Global) -> Result<Form, NoMemory>
-    ensures { IfOk result (λ form. form ≡ optional digit) }
+fn in_year_form(alloc: Global) -> Result<Form, NoMemory>
+    ensures { IfOk result (λ form. form ≡ in_year_form) }
 {
-    Form::optional(alloc, Form::range(b'0', b'9'))
+    Form::seq(alloc, separator(alloc)?, months_from(alloc, 1, 12)?)
 }
 
-fn in_year_form(alloc: Global, leap: bool) -> Result<Form, NoMemory>
-    ensures { IfOk result (λ form. form ≡ in_year_form leap) }
+fn leap_day_form(alloc: Global) -> Result<Form, NoMemory>
+    ensures { IfOk result (λ form. form ≡ leap_day_form) }
 {
-    Form::seq(alloc, separator(alloc)?, months_from(alloc, leap, 1, 12)?)
+    let day = Form::seq(alloc, separator(alloc)?, pair(alloc, 29)?)?;
+    let month = Form::seq(alloc, numeral(alloc, 2)?, day)?;
+    Form::seq(alloc, separator(alloc)?, month)
 }
 
 #[tactic(auto, using(crate::proofs::DateFormLaws::each_none, crate::proofs::DateFormLaws::each_some))]
-fn months_from(alloc: Global, leap: bool, first: u8, count: u8) -> Result<Form, NoMemory>
+fn months_from(alloc: Global, first: u8, count: u8) -> Result<Form, NoMemory>
     requires { first + count ≤ 100 }
-    ensures { IfOk result (λ form. form ≡ each_from (month_form leap) first count) }
+    ensures { IfOk result (λ form. form ≡ each_from month_form first count) }
 {
     if count == 0 {
         return Ok(Form::nothing());
     }
-    let others = months_from(alloc, leap, first + 1, count - 1)?;
-    Form::either(alloc, month_form(alloc, leap, first)?, others)
+    let others = months_from(alloc, first + 1, count - 1)?;
+    Form::either(alloc, month_form(alloc, first)?, others)
 }
 
-fn month_form(alloc: Global, leap: bool, month: u8) -> Result<Form, NoMemory>
+fn month_form(alloc: Global, month: u8) -> Result<Form, NoMemory>
     requires { month < 100 }
-    ensures { IfOk result (λ form. form ≡ month_form leap month) }
+    ensures { IfOk result (λ form. form ≡ month_form month) }
 {
-    let days = numerals_from(alloc, 1, month_length(leap, u64::from(month)) as u8)?;
+    let days = numerals_from(alloc, 1, month_length(false, u64::from(month)) as u8)?;
     let day = Form::optional(alloc, Form::seq(alloc, separator(alloc)?, days)?)?;
     Form::seq(alloc, numeral(alloc, month)?, day)
 }

@@ -1,7 +1,5 @@
-ghost use Rattle.std.specs.Prelude.{◌≡◌, ◌≤◌, ◌∷◌, [], length};
-ghost use Rattle.lk_grammar.specs.Literals.{IsLiteralReader};
-ghost use Rattle.lk_grammar.specs.Numbers.{begins_no_digit};
-ghost use Rattle.lk_filter_date.specs.DateTexts.{date_literal, is_of_date, date_count, date_length};
+ghost use Rattle.std.specs.Prelude.{◌≡◌, ◌≤◌, length};
+ghost use Rattle.lk_filter_date.specs.DateTexts.{is_of_date, date_count, date_length};
 
 use lk_grammar::Literals;
 
@@ -18,11 +16,6 @@ impl Literals for DateLiterals {
         date_length(text)
     }
 }
-
-/// The longest literal in front of a text is found.
-pub(crate) fn dates_are_literals()
-    ensures { IsLiteralReader (32 ∷ []) date_literal is_of_date begins_no_digit date_length }
-{}
 
 fn date_length(text: &[u8]) -> usize
     ensures exact { result ≡ date_length text.now }

@@ -173,3 +173,16 @@ fn a_text_is_refused_where_it_stops_being_a_filter_of_dates(rt: HostRuntime) -> 
     }
     Ok(())
 }
+
+#[test]
+fn the_place_of_a_long_text_is_found(rt: HostRuntime) -> Result<(), Fail> {
+    let mut text = Vec::new(rt.alloc());
+    for _item in 0..300 {
+        text.extend_from_slice(b"2024-02-28, 28 days,")
+            .or(Err("memory"))?;
+    }
+    text.push(b'x').or(Err("memory"))?;
+    let judged = judge_dates(rt.alloc(), text.as_slice()).or(Err("memory"))?;
+    assert_eq!(rt; judged, Some(6000));
+    Ok(())
+}
