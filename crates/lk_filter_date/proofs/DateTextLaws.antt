@@ -9,6 +9,7 @@ use Rattle.lk_grammar.specs.Words.{one}
 use Rattle.lk_grammar.specs.Literals.{is_ended}
 use Rattle.lk_grammar.specs.Numbers.{digit, is_digit}
 use Rattle.lk_grammar.proofs.FormLaws.{both, and_both, one_of}
+use Rattle.lk_grammar.proofs.LiteralLaws.{exact_text, text_exact}
 use Rattle.lk_grammar.proofs.WordLaws.{one_text, text_one}
 use Rattle.lk_types.specs.Calendar.{is_leap}
 use Rattle.lk_types.specs.declared.filter.Days.{Days}
@@ -620,18 +621,6 @@ last_three value text small (inl h) =
     let high : d.value ≤ 57 = digit_high d.value d.is in
     subst (λ z. IsSomeCount (count_from value z)) (sym (h.joined ∙ ap (λ z. z ++ h.back) d.alone)) (one_more value d.value h.back d.is (omega (arith, small)) (last_two (10 * value + (d.value - 48)) h.back (omega (arith, small, high)) h.second))
 
-ten_thousand : (text : List ℕ) → IsText (seq (one 49) (seq (one 48) (seq (one 48) (seq (one 48) (one 48))))) text → text ≡ 49 ∷ 48 ∷ 48 ∷ 48 ∷ 48 ∷ []
-ten_thousand text h =
-    let b = h.second in
-    let c = b.second in
-    let d = c.second in
-    h.joined
-    ∙ ap (λ z. z ++ h.back) (text_one 49 h.front h.first)
-    ∙ ap (λ z. 49 ∷ z) (b.joined ∙ ap (λ z. z ++ b.back) (text_one 48 b.front b.first))
-    ∙ ap (λ z. 49 ∷ 48 ∷ z) (c.joined ∙ ap (λ z. z ++ c.back) (text_one 48 c.front c.first))
-    ∙ ap (λ z. 49 ∷ 48 ∷ 48 ∷ z) (d.joined ∙ ap (λ z. z ++ d.back) (text_one 48 d.front d.first))
-    ∙ ap (λ z. 49 ∷ 48 ∷ 48 ∷ 48 ∷ z) (text_one 48 d.back d.second)
-
 pub count_read : (text : List ℕ) → IsText count_form text → IsSomeCount (count_of text)
 count_read text (inl h) =
     let first = h.first in
@@ -640,7 +629,7 @@ count_read text (inl h) =
     let no_zero : nat_eq first.value 48 ≡ false = is_false (nat_eq first.value 48) (λ e. let is : first.value ≡ 48 = same first.value 48 e in omega (arith, low, is)) in
     let rest = last_three (first.value - 48) h.back (omega (arith, high)) h.second in
     subst (λ z. IsSomeCount (count_of z)) (sym (h.joined ∙ ap (λ z. z ++ h.back) first.alone)) (rest.0, rw (is_digit_from first.value (omega (arith, low)) high, no_zero) rest.1)
-count_read text (inr h) = subst (λ z. IsSomeCount (count_of z)) (sym (ten_thousand text h)) (10000, refl)
+count_read text (inr h) = subst (λ z. IsSomeCount (count_of z)) (sym (text_exact (49 ∷ 48 ∷ 48 ∷ 48 ∷ 48 ∷ []) text h)) (10000, refl)
 
 -- what was tested of a further digit
 record IsMore (value b : ℕ) (text : List ℕ) (n : ℕ) : Type 0 where
@@ -663,7 +652,8 @@ first_digit a text low high h = inl (record { front = a ∷ []; back = text; joi
 
 same_bytes : (a b c d e : ℕ) → a ≡ 49 → b ≡ 48 → c ≡ 48 → d ≡ 48 → e ≡ 48 → IsText count_form (a ∷ b ∷ c ∷ d ∷ e ∷ [])
 same_bytes a b c d e p q r s t =
-    inr (record { front = a ∷ []; back = b ∷ c ∷ d ∷ e ∷ []; joined = refl; first = one_at 49 a (sym p); second = record { front = b ∷ []; back = c ∷ d ∷ e ∷ []; joined = refl; first = one_at 48 b (sym q); second = record { front = c ∷ []; back = d ∷ e ∷ []; joined = refl; first = one_at 48 c (sym r); second = record { front = d ∷ []; back = e ∷ []; joined = refl; first = one_at 48 d (sym s); second = one_at 48 e (sym t) } } } })
+    let is : 49 ∷ 48 ∷ 48 ∷ 48 ∷ 48 ∷ [] ≡ a ∷ b ∷ c ∷ d ∷ e ∷ [] = rw (p, q, r, s, t) refl in
+    subst (IsText count_form) is (inr (exact_text (49 ∷ 48 ∷ 48 ∷ 48 ∷ 48 ∷ [])))
 
 -- the digits behind the first one
 digits_before : (a : ℕ) (text : List ℕ) (n : ℕ) → 49 ≤ a → a ≤ 57 → count_from (a - 48) text ≡ Some n → IsText count_form (a ∷ text)

@@ -1,8 +1,8 @@
 -- How a date and a count are written in filters of dates, and the days that a date is.
-use Rattle.std.specs.Prelude.{ℕ, zero, suc, ◌+◌, ◌-◌, ◌*◌, ◌/◌, ◌%◌, Bool, false, not, ◌&&◌, ◌||◌, nat_eq, nat_le, nat_lt, List, [], ◌∷◌, slice_index, Option, Some, None, if◌then◌else◌}
+use Rattle.std.specs.Prelude.{ℕ, zero, suc, ◌+◌, ◌-◌, ◌*◌, ◌/◌, ◌%◌, Bool, false, not, ◌&&◌, ◌||◌, nat_eq, nat_le, nat_lt, List, [], ◌∷◌, slice_index, Option, Some, None, codes, if◌then◌else◌}
 use Rattle.std.specs.Option.{option_and_then}
 use Rattle.lk_grammar.specs.Forms.{Form, nothing, byte, seq, either, many, optional}
-use Rattle.lk_grammar.specs.Words.{one}
+use Rattle.lk_grammar.specs.Words.{one, exactly}
 use Rattle.lk_grammar.specs.Numbers.{digit, is_digit}
 use Rattle.lk_types.specs.Calendar.{is_leap, year_start, month_start, from_1970}
 use Rattle.lk_types.specs.declared.filter.Days.{Days}
@@ -171,6 +171,4 @@ date_form = either (seq year_form (optional in_year_form)) (seq leap_form leap_d
 
 -- one digit to four, of which the first is not 0, or 10000
 abbrev pub count_form : Form
-count_form =
-    either (seq (byte 49 57) (optional (seq digit (optional (seq digit (optional digit))))))
-    (seq (one 49) (seq (one 48) (seq (one 48) (seq (one 48) (one 48)))))
+count_form = either (seq (byte 49 57) (optional (seq digit (optional (seq digit (optional digit)))))) (exactly (codes "10000"))

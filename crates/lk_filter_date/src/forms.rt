@@ -27,11 +27,7 @@ pub(crate) fn count_form(alloc: Global) -> Result<Form, NoMemory>
     let second = Form::seq(alloc, Form::range(b'0', b'9'), third)?;
     let second = Form::optional(alloc, second)?;
     let up_to_four = Form::seq(alloc, Form::range(b'1', b'9'), second)?;
-    let zeros = Form::seq(alloc, Form::byte(b'0'), Form::byte(b'0'))?;
-    let zeros = Form::seq(alloc, Form::byte(b'0'), zeros)?;
-    let zeros = Form::seq(alloc, Form::byte(b'0'), zeros)?;
-    let ten_thousand = Form::seq(alloc, Form::byte(b'1'), zeros)?;
-    Form::either(alloc, up_to_four, ten_thousand)
+    Form::either(alloc, up_to_four, Form::exactly(alloc, b"10000")?)
 }
 
 fn in_year_form(alloc: Global) -> Result<Form, NoMemory>

@@ -6,12 +6,7 @@ use lk_val::NoMemory;
 use std::alloc::Global;
 
 /// Nothing but spaces, which are the white bytes; or an item with any number of further ones, and spaces.
-pub fn listed(
-    alloc: Global,
-    white: &[u8],
-    item: Form,
-    further: Form,
-) -> Result<Form, NoMemory>
+pub fn listed(alloc: Global, white: &[u8], item: Form, further: Form) -> Result<Form, NoMemory>
     ensures { IfOk result (λ form. form ≡ listed white.now item further) }
 {
     let further = Form::many(alloc, further)?;
