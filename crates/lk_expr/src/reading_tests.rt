@@ -1,5 +1,4 @@
 use super::*;
-use lk_types::Comparison;
 use lk_val::{NoMemory, as_text};
 use std::alloc::Global;
 use std::test::Fail;
@@ -83,40 +82,48 @@ fn brackets_nest_100_deep(rt: HostRuntime) -> Result<(), Fail> {
 }
 
 // An expression by the names of its operators: `plus(a times(b c))` for a + b * c.
-#[cycle(show)]
 fn show(out: &mut String, e: &RawExpr) -> Result<(), NoMemory> {
     match e {
-        RawExpr::Name(name, _) => show_name(out, name.as_slice()),
-        RawExpr::Group(a) => show_one(out, "group", a),
-        RawExpr::Negate(a) => show_one(out, "negate", a),
-        RawExpr::Not(a) => show_one(out, "not", a),
-        RawExpr::Compare(Comparison::Equal, a, b) => show_two(out, "equal", a, b),
-        RawExpr::Chain(Joint::Or, a, b) => show_two(out, "or", a, b),
-        RawExpr::Chain(Joint::And, a, b) => show_two(out, "and", a, b),
-        RawExpr::Chain(Joint::Plus, a, b) => show_two(out, "plus", a, b),
-        RawExpr::Chain(Joint::Minus, a, b) => show_two(out, "minus", a, b),
-        RawExpr::Chain(Joint::Times, a, b) => show_two(out, "times", a, b),
-        RawExpr::Chain(Joint::Concat, a, b) => show_two(out, "concat", a, b),
-        _ => Ok(out.push_str("other")?),
+        RawExpr::Name(name, _) => return show_name(out, name.as_slice()),
+        RawExpr::Group(a) => {
+            out.push_str("group(")?;
+            show(out, a)?;
+        }
+        RawExpr::Negate(a) => {
+            out.push_str("negate(")?;
+            show(out, a)?;
+        }
+        RawExpr::Not(a) => {
+            out.push_str("not(")?;
+            show(out, a)?;
+        }
+        RawExpr::Compare(_, a, b) => {
+            out.push_str("equal(")?;
+            show(out, a)?;
+            out.push_str(" ")?;
+            show(out, b)?;
+        }
+        RawExpr::Chain(joint, a, b) => {
+            out.push_str(name_of(*joint))?;
+            show(out, a)?;
+            out.push_str(" ")?;
+            show(out, b)?;
+        }
+        _ => out.push_str("other(")?,
     }
-}
-
-#[cycle(show)]
-fn show_one(out: &mut String, name: &str, a: &RawExpr) -> Result<(), NoMemory> {
-    out.push_str(name)?;
-    out.push_str("(")?;
-    show(out, a)?;
     Ok(out.push_str(")")?)
 }
 
-#[cycle(show)]
-fn show_two(out: &mut String, name: &str, a: &RawExpr, b: &RawExpr) -> Result<(), NoMemory> {
-    out.push_str(name)?;
-    out.push_str("(")?;
-    show(out, a)?;
-    out.push_str(" ")?;
-    show(out, b)?;
-    Ok(out.push_str(")")?)
+fn name_of(joint: Joint) -> &'static str {
+    match joint {
+        Joint::Or => "or(",
+        Joint::And => "and(",
+        Joint::Plus => "plus(",
+        Joint::Minus => "minus(",
+        Joint::Times => "times(",
+        Joint::Over => "over(",
+        Joint::Concat => "concat(",
+    }
 }
 
 fn show_name(out: &mut String, name: &[u8]) -> Result<(), NoMemory> {
