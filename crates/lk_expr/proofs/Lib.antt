@@ -1,11 +1,3 @@
 pub mod KindLaws
-pub mod LetterLaws
 pub mod FrameSteps
 pub mod DateLaws
-pub mod LexSteps
-pub mod LexLaws
-pub mod TextLaws
-pub mod ParseSteps
-pub mod ParseSound
-pub mod ParseFound
-pub mod ReadLaws

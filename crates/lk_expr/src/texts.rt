@@ -49,14 +49,14 @@ fn joined(alloc: Global, a: &Text, b: &Text) -> Result<Value, NoMemory>
     Ok(Value::Text(Text::from_string(both)))
 }
 
-#[tactic(auto, using(crate::proofs::LetterLaws::lower_letters))]
+#[tactic(auto, using(lk_expr_text::proofs::LetterLaws::lower_letters))]
 fn lowered(alloc: Global, text: &Text) -> Result<Text, NoMemory>
     ensures { IfOk result (λ lower. lower ≡ map ascii_lower text.now) }
 {
     Ok(Text::from_string(text.as_str().to_ascii_lowercase(alloc)?))
 }
 
-#[tactic(auto, using(crate::proofs::LetterLaws::upper_letters))]
+#[tactic(auto, using(lk_expr_text::proofs::LetterLaws::upper_letters))]
 fn uppered(alloc: Global, text: &Text) -> Result<Text, NoMemory>
     ensures { IfOk result (λ upper. upper ≡ map ascii_upper text.now) }
 {

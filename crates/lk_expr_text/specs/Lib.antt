@@ -1,0 +1,9 @@
+pub mod Tokens
+pub mod Lexing
+pub mod Grammar
+pub mod RawCode
+pub mod Calls
+pub mod TokenKinds
+pub mod TokenFronts
+pub mod Parsing
+pub mod ParsedCode

@@ -1,0 +1,62 @@
+-- The tokens in front of a text that spells no expression, and what begins a token of a kind.
+use Rattle.std.specs.Prelude.{◌≡◌, ℕ, zero, suc, ◌+◌, Bool, true, not, ◌&&◌, nat_eq, if◌then◌else◌, List, [], ◌∷◌, ◌++◌, length, take, Some, None}
+use Rattle.std.specs.List.{list_all}
+use Rattle.lk_grammar.specs.Numbers.{unsigned_length}
+use Rattle.lk_expr_text.specs.declared.token.Token.{Token}
+use Rattle.lk_expr_text.specs.declared.kind.TokenKind.{TokenKind}
+use Rattle.lk_expr_text.specs.Tokens.{is_number, is_space, IsTokenAt, IsLed}
+use Rattle.lk_expr_text.specs.Lexing.{Found, first_token}
+use Rattle.lk_expr_text.specs.TokenKinds.{token_kind, token_byte}
+
+-- a number comes first that no table may hold: it is out of range, or has a digit other than 0 past the fourth place
+abbrev pub is_unread : List ℕ → Bool
+is_unread text = not (nat_eq (unsigned_length text) 0) && not (is_number (take (unsigned_length text) text))
+
+-- the text is one token of the kind
+abbrev pub IsOfKind : TokenKind → List ℕ → Type 0
+IsOfKind kind text = (whole : ℕ) × (t : Token) × (token_kind t ≡ kind) × IsTokenAt whole t text []
+
+-- the text is free spaces, and what is behind them is as given
+pub record IsSpaced (Behind : List ℕ → Type 0) (text : List ℕ) : Type 0 where
+  pub gap : List ℕ
+  pub rest : List ℕ
+  pub joined : text ≡ gap ++ rest
+  pub spaces : list_all is_space gap ≡ true
+  pub behind : Behind rest
+
+-- the text is the tokens, with free spaces before each and behind the last, and what is behind these is as given; it ends a text of so many bytes
+abbrev pub IsSpelledThen : ℕ → (List ℕ → Type 0) → List Token → List ℕ → Type 0
+IsSpelledThen whole Behind [] text = IsSpaced Behind text
+IsSpelledThen whole Behind (t ∷ ts) text = IsLed whole (IsSpelledThen whole Behind ts) t text
+
+-- a number that no table may hold begins at the byte of the text: tokens are before it
+abbrev pub IsUnreadAt : List ℕ → ℕ → Type 0
+IsUnreadAt text n = (ts : List Token) × IsSpelledThen (length text) (λ rest. (is_unread rest ≡ true) × (n + length rest ≡ length text)) ts text
+
+-- ---- how they are found
+
+-- the text behind its first spaces
+abbrev pub behind_spaces : List ℕ → List ℕ
+behind_spaces [] = []
+behind_spaces (b ∷ text) = if is_space b then behind_spaces text else b ∷ text
+
+abbrev pub then_bytes : Found → (List ℕ → List ℕ) → List ℕ
+then_bytes None more = []
+then_bytes (Some (t, rest)) more = token_byte t ∷ more rest
+
+-- the kinds of the tokens in front of a text, as far as they are read, with fuel for each; it ends a text of so many bytes
+abbrev pub kinds_from : ℕ → List ℕ → List ℕ → List ℕ
+kinds_from whole [] text = []
+kinds_from whole (f ∷ fuel) text = then_bytes (first_token whole (behind_spaces text)) (kinds_from whole fuel)
+
+abbrev pub kinds_in : List ℕ → List ℕ
+kinds_in text = kinds_from (length text) text text
+
+abbrev pub then_rest : Found → (List ℕ → List ℕ) → List ℕ → List ℕ
+then_rest None more text = text
+then_rest (Some (t, rest)) more text = more rest
+
+-- what is behind so many tokens in front of a text and the spaces behind them
+abbrev pub behind_tokens : ℕ → ℕ → List ℕ → List ℕ
+behind_tokens whole zero text = behind_spaces text
+behind_tokens whole (suc count) text = then_rest (first_token whole (behind_spaces text)) (behind_tokens whole count) (behind_spaces text)

@@ -1,0 +1,22 @@
+//! The texts of expressions: their tokens, and the one tree that a text spells.
+#![tactic(auto)]
+
+mod calls;
+mod grown;
+mod kind;
+mod lexer;
+mod measure;
+mod parser;
+mod raw;
+mod reading;
+mod token;
+
+pub use calls::unknown_call;
+pub use kind::{TOKEN_KINDS, TokenKind, kind_byte, token_kind};
+pub use measure::parse_measure;
+pub use raw::{Joint, RawArgs, RawBranches, RawExpr};
+pub use reading::parse_expr;
+pub use token::{Keyword, Sign, Token};
+
+#[cfg(test)]
+mod tests;
