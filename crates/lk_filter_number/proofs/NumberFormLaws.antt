@@ -1,7 +1,6 @@
 -- Filters of numbers: the texts of the form are those that spell items.
-use Rattle.std.proofs.Common.{◌≡◌, ◌⊎◌, inl, inr, ℕ, Bool, true, false, List, [], ◌∷◌, ◌++◌, length, Option, Some, None, refl, sym, ap, subst, ◌∙◌, append-nil}
+use Rattle.std.proofs.Common.{◌≡◌, ◌⊎◌, inl, inr, ℕ, Bool, true, false, List, [], ◌∷◌, ◌++◌, Option, Some, None, refl, sym, ap, subst, ◌∙◌, append-nil}
 use Rattle.std.specs.List.{concat, AllByRecursion}
-use Rattle.std.specs.Option.{unwrap_or}
 use Rattle.lk_grammar.specs.Forms.{Form, IsText, IsJoined, seq, either, many, optional}
 use Rattle.lk_grammar.specs.Places.{Judges}
 use Rattle.lk_grammar.specs.Words.{free}
@@ -11,7 +10,7 @@ use Rattle.lk_grammar.specs.declared.literals.Token.TheVariants.{Word, Literal}
 use Rattle.lk_grammar.proofs.LiteralLaws.{exact_text, text_exact}
 use Rattle.lk_grammar.proofs.PlaceLaws.{same_judgement}
 use Rattle.lk_grammar.specs.Listed.{run_form, further_tokens, listed}
-use Rattle.lk_filter_number.specs.Numbers.{letters_of, NumberToken, order_word, open_word, close_word, end_token, and_tokens, range_tokens, item_tokens, between_word, more_tokens, IsNumberText, IsNumbers, any_word, written_number, order_form, compared_form, end_form, interval_form, range_form, item_form, further_form, number_form, IsNumbersPlace, before_place, unread_from}
+use Rattle.lk_filter_number.specs.Numbers.{letters_of, NumberToken, order_word, open_word, close_word, end_token, and_tokens, range_tokens, item_tokens, between_word, more_tokens, IsNumberText, IsNumbers, any_word, written_number, order_form, compared_form, end_form, interval_form, range_form, item_form, further_form, number_form}
 use Rattle.lk_filter_number.specs.declared.number.words.NumberWord.{NumberWord}
 use Rattle.lk_filter_number.specs.declared.number.words.NumberWord.TheVariants as word
 use Rattle.lk_filter_number.specs.declared.number.items.WrittenEnd.{WrittenEnd}
@@ -26,7 +25,6 @@ use Rattle.lk_filter_number.specs.declared.number.items.NumberItem.TheVariants.{
 use Rattle.lk_filter_number.specs.declared.number.items.FurtherItem.{FurtherItem}
 use Rattle.lk_filter_number.specs.declared.number.items.NumberItems.{NumberItems}
 use Rattle.lk_grammar.proofs.ListedLaws.{run_joined, run_parted, alone, only, listed_there, listed_back}
-use Rattle.lk_grammar.proofs.ReadingLaws.{place_of_judged}
 
 -- the tokens are spelled one behind the other, and each literal is a number
 abbrev Run : List NumberToken → List ℕ → Type 0
@@ -328,7 +326,3 @@ from_form text (inr h) =
 pub numbers_judged : (text : List ℕ) (o : Option ℕ) → Judges (IsText number_form) text o → Judges IsNumbers text o
 unfolding number_form
 numbers_judged text o = same_judgement from_form (λ text h. of_form h.0 text h.1) text o
-
--- the place of a text, from its judgement and the first number that is not read
-pub numbers_place : (text : List ℕ) (o : Option ℕ) (n : ℕ) → Judges IsNumbers text o → n ≡ before_place (unwrap_or o (length text)) (unread_from false text) → IsNumbersPlace text n
-numbers_place text o n judged e = (unwrap_or o (length text), place_of_judged IsNumbers text o judged, e)

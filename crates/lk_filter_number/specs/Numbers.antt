@@ -1,5 +1,5 @@
 -- Filters of numbers: items with commas or `OR` between, each a range, a number that is left out, or `NULL`.
-use Rattle.std.specs.Prelude.{◌≡◌, ℕ, suc, not, min, nat_eq, take, Bool, true, false, ◌&&◌, ◌||◌, List, [], ◌∷◌, ◌++◌, Option, Some, None, option_map, codes, if◌then◌else◌, Result, Ok, Err}
+use Rattle.std.specs.Prelude.{◌≡◌, ◌⊎◌, ℕ, zero, suc, ◌<◌, ◌≤◌, not, min, nat_eq, take, drop, slice_index_or, Bool, true, false, ◌&&◌, ◌||◌, List, [], ◌∷◌, ◌++◌, Option, Some, None, option_map, codes, if◌then◌else◌, Result, Ok, Err}
 use Rattle.std.specs.Option.{option_and_then, option_or, is_none}
 use Rattle.std.specs.List.{AllByRecursion}
 use Rattle.lk_val.specs.Numbers.{num_of}
@@ -401,7 +401,27 @@ is_number_byte b = is_of_number b || nat_eq b 45
 abbrev pub is_unread : List ℕ → Bool
 is_unread text = not (nat_eq (number_length text) 0) && is_none (num_at (take (number_length text) text))
 
--- the first byte of the first number that is not read; a byte behind another of a number begins none
+-- the byte before the place is one of a number
+abbrev pub is_behind_number : List ℕ → ℕ → Bool
+is_behind_number text zero = false
+is_behind_number text (suc n) = is_number_byte (slice_index_or text n 0)
+
+-- a number that is not read begins at the place; a byte behind another of a number begins none
+pub record IsUnreadAt (text : List ℕ) (n : ℕ) : Type 0 where
+  pub unread : is_unread (drop n text) ≡ true
+  pub begins : is_behind_number text n ≡ false
+
+-- the place of a text that is no filter of numbers: where it stops being one, or the first byte of the first number before it that is not read
+pub record IsNumbersPlace (text : List ℕ) (n : ℕ) : Type 0 where
+  pub place : ℕ
+  pub at_place : IsPlace IsNumbers text place
+  pub within : n ≤ place
+  pub none : (m : ℕ) → m < n → IsUnreadAt text m → ⊥
+  pub reached : (n ≡ place) ⊎ IsUnreadAt text n
+
+-- ---- how the number is found
+
+-- the first byte of the first number that is not read, inside a number or not
 abbrev pub unread_from : Bool → List ℕ → Option ℕ
 unread_from inside [] = None
 unread_from inside (b ∷ text) =
@@ -411,7 +431,3 @@ unread_from inside (b ∷ text) =
 abbrev pub before_place : ℕ → Option ℕ → ℕ
 before_place place None = place
 before_place place (Some unread) = min place unread
-
--- the place of a text that is no filter of numbers: where it stops being one, or the first number that is not read
-abbrev pub IsNumbersPlace : List ℕ → ℕ → Type 0
-IsNumbersPlace text n = (place : ℕ) × IsPlace IsNumbers text place × (n ≡ before_place place (unread_from false text))
