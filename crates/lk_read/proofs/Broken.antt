@@ -13,19 +13,20 @@ use Rattle.lk_read.specs.declared.phase.Slot.TheVariants as slot
 use Rattle.lk_read.specs.declared.phase.Phase.{Phase}
 use Rattle.lk_read.specs.declared.phase.Phase.TheVariants as phase
 use Rattle.lk_read.specs.declared.reader.Reader.{Reader}
-use Rattle.lk_read.specs.declared.utf8.Utf8.{Utf8}
-use Rattle.lk_read.specs.declared.utf8.Utf8.TheVariants as utf
+use Rattle.lk_utf8.specs.declared.utf8.Utf8.{Utf8}
+use Rattle.lk_utf8.specs.declared.utf8.Utf8.TheVariants as utf
 use Rattle.lk_read.specs.Outline.{Plain, word, quoted, list, code}
 use Rattle.lk_read.specs.Lines.{Line, plain, block, closing}
 use Rattle.lk_read.specs.Built.{Built, first_of, closed_of}
 use Rattle.lk_read.specs.Bytes.{is_space, is_name_byte, is_word_byte, is_title, is_key, is_code_name}
-use Rattle.lk_read.specs.Utf8.{completes, utf8_after, is_whole}
+use Rattle.lk_utf8.specs.Utf8.{completes, utf8_after, is_whole}
 use Rattle.lk_read.specs.Grammar.{IsGap, IsComment, IsRun, IsWord, IsEntry, IsQuoted, IsEscape, IsCode, IsSemicolon, trimmed, IsValue, IsContent, IsNamed, IsLine, is_escaped, unescaped}
 use Rattle.lk_read.specs.BreaksOff.{IsOpenBehind, IsCutLine, IsMissing}
 use Rattle.lk_read.specs.Reading.{whole, missing, word_end, start_end, end_at, with_entry, with_plain, closed_to, between_at, colon_at, behind_colon, block_opened, bracket_at, start_at, comma_at, behind_at, piece_at, gap_at, string_ended, quoted_at, escape_at, code_at, semicolon_at, name_at, word_at, step_at, step}
 use Rattle.lk_read.proofs.Rests.{BehindComment}
 use Rattle.lk_read.proofs.Cuts.{CutLines, After, CutComma, CutPair, CutEntries, CutStart, CutBehind, CutString, CutColon, CutAt, CutGap, CutRest, IsCut}
-use Rattle.lk_read.proofs.Steps.{by_test, Back, back_by, both, headed, by_next, whole_is, apart, no_quote, no_backslash, no_semicolon, neither, completes_more, completes_unescaped}
+use Rattle.lk_utf8.proofs.CompletionLaws.{whole_is, completes_more, apart}
+use Rattle.lk_read.proofs.Steps.{by_test, Back, back_by, both, headed, by_next, no_quote, no_backslash, no_semicolon, neither, completes_unescaped}
 
 module _ (most size : ℕ) (why : ReadFault) where
   -- ---- lines

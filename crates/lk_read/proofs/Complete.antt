@@ -12,17 +12,18 @@ use Rattle.lk_read.specs.declared.phase.Slot.TheVariants as slot
 use Rattle.lk_read.specs.declared.phase.Phase.{Phase}
 use Rattle.lk_read.specs.declared.phase.Phase.TheVariants as phase
 use Rattle.lk_read.specs.declared.reader.Reader.{Reader}
-use Rattle.lk_read.specs.declared.utf8.Utf8.{Utf8}
-use Rattle.lk_read.specs.declared.utf8.Utf8.TheVariants as utf
+use Rattle.lk_utf8.specs.declared.utf8.Utf8.{Utf8}
+use Rattle.lk_utf8.specs.declared.utf8.Utf8.TheVariants as utf
 use Rattle.lk_read.specs.Outline.{Plain, word, quoted, list, code}
 use Rattle.lk_read.specs.Lines.{Line, plain, block, closing}
 use Rattle.lk_read.specs.Built.{Built, first_of, with_block, closed_of}
 use Rattle.lk_read.specs.Bytes.{is_space, is_name_byte, is_word_byte, is_title, is_key, is_code_name}
-use Rattle.lk_read.specs.Utf8.{completes, utf8_after, is_whole}
+use Rattle.lk_utf8.specs.Utf8.{completes, utf8_after, is_whole}
 use Rattle.lk_read.specs.Grammar.{IsGap, IsComment, IsQuoted, IsEscape, IsSemicolon, trimmed, IsScalar, IsWord, IsString, IsEntry, AreEntries, IsValue, IsOpening, IsNamed, IsLine, AreLines, SpellsLines, unescaped}
 use Rattle.lk_read.specs.Reading.{Step, read_lines, read_from, then_read, start_of_file, whole, word_end, end_at, with_entry, with_plain, closed_to, between_at, colon_at, behind_colon, opened, block_opened, list_ended, bracket_at, start_at, comma_at, behind_at, piece_at, gap_at, string_ended, quoted_at, escape_at, code_at, semicolon_at, name_at, word_at, step_at, step}
 use Rattle.lk_read.proofs.Rests.{Emits, AtComma, BehindEntry, AtStart, AtBehind, BehindString, BehindColon, At, AtGap, RestOf, BehindComment, AllLines, IsRest}
-use Rattle.lk_read.proofs.Steps.{On, on_true, on_false, differs, not_both, not_both_right, both_true, either_false, BeginsPiece, word_begins, name_is_word, begins_at, completes_parts, whole_at, no_semicolon, whole_is, on_next, unescaped_parts}
+use Rattle.lk_utf8.proofs.CompletionLaws.{completes_parts, whole_at, whole_is}
+use Rattle.lk_read.proofs.Steps.{On, on_true, on_false, differs, not_both, not_both_right, both_true, either_false, BeginsPiece, word_begins, name_is_word, begins_at, no_semicolon, on_next, unescaped_parts}
 
 pub head_of : (b c : ℕ) (t rest : List ℕ) → b ∷ t ≡ c ∷ rest → b ≡ c
 head_of b c t rest e = cc

@@ -15,4 +15,3 @@ pub mod Answered
 pub mod Valid
 pub mod RoundTrip
 pub mod Examples
-pub mod Utf8Laws

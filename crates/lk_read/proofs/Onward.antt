@@ -13,20 +13,21 @@ use Rattle.lk_read.specs.declared.phase.Slot.TheVariants as slot
 use Rattle.lk_read.specs.declared.phase.Phase.{Phase}
 use Rattle.lk_read.specs.declared.phase.Phase.TheVariants as phase
 use Rattle.lk_read.specs.declared.reader.Reader.{Reader}
-use Rattle.lk_read.specs.declared.utf8.Utf8.{Utf8}
-use Rattle.lk_read.specs.declared.utf8.Utf8.TheVariants as utf
+use Rattle.lk_utf8.specs.declared.utf8.Utf8.{Utf8}
+use Rattle.lk_utf8.specs.declared.utf8.Utf8.TheVariants as utf
 use Rattle.lk_read.specs.Outline.{Plain, word, quoted, list, code}
 use Rattle.lk_read.specs.Lines.{Line, plain, block, closing}
 use Rattle.lk_read.specs.Built.{Built, first_of, with_block, closed_of}
 use Rattle.lk_read.specs.Bytes.{is_space, is_name_byte, is_word_byte, is_title, is_key, is_code_name}
-use Rattle.lk_read.specs.Utf8.{completes, utf8_after, is_whole}
+use Rattle.lk_utf8.specs.Utf8.{completes, utf8_after, is_whole}
 use Rattle.lk_read.specs.Grammar.{IsGap, IsComment, IsWord, IsString, IsQuoted, IsEntry, AreEntries, IsValue, IsOpening, IsNamed, unescaped}
 use Rattle.lk_read.specs.BreaksOff.{Passes, IsCutLine, IsMissing, IsOpenString, PassesEntries, IsCutEntry, AreCutEntries, IsCutValue}
 use Rattle.lk_read.specs.Reading.{Step, in_phase, goes_to, whole, missing, word_end, start_end, end_at, with_entry, with_plain, closed_to, between_at, colon_at, behind_colon, opened, block_opened, bracket_at, start_at, comma_at, behind_at, piece_at, gap_at, string_ended, quoted_at, escape_at, code_at, semicolon_at, name_at, word_at, step_at, step}
 use Rattle.lk_read.proofs.Rests.{BehindComment}
 use Rattle.lk_read.proofs.Cuts.{CutLines, After, CutComma, CutBehindEntry, CutStart, CutBehind, CutString, CutColon, CutAt, CutGap, CutRest, IsCut}
 use Rattle.lk_read.proofs.Complete.{head_of, tail_of, same_place, not_brace, not_colon, line_begins, comma_piece, value_begins, opening_begins, entry_begins, entries_begin, scalar_begins, escape_whole, semicolon_whole, no_line, no_value, no_opening, no_entry, no_entries, no_scalar}
-use Rattle.lk_read.proofs.Steps.{by_test, both, by_next, both_true, not_both, not_both_right, either_false, whole_is, apart, no_quote, no_backslash, no_semicolon, neither, BeginsPiece, begins_at, word_begins, completes_parts, unescaped_parts}
+use Rattle.lk_utf8.proofs.CompletionLaws.{whole_is, completes_parts, apart}
+use Rattle.lk_read.proofs.Steps.{by_test, both, by_next, both_true, not_both, not_both_right, either_false, no_quote, no_backslash, no_semicolon, neither, BeginsPiece, begins_at, word_begins, unescaped_parts}
 
 -- where the step goes on, this holds behind it
 abbrev pub Then : (Reader → Type 0) → Step → Type 0

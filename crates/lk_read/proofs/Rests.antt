@@ -9,12 +9,12 @@ use Rattle.lk_read.specs.declared.phase.Slot.TheVariants as slot
 use Rattle.lk_read.specs.declared.phase.Phase.{Phase}
 use Rattle.lk_read.specs.declared.phase.Phase.TheVariants as phase
 use Rattle.lk_read.specs.declared.reader.Reader.{Reader}
-use Rattle.lk_read.specs.declared.utf8.Utf8.TheVariants as utf
+use Rattle.lk_utf8.specs.declared.utf8.Utf8.TheVariants as utf
 use Rattle.lk_read.specs.Outline.{Plain, word, quoted, list, code}
 use Rattle.lk_read.specs.Lines.{Line, plain, block}
 use Rattle.lk_read.specs.Built.{Built}
 use Rattle.lk_read.specs.Bytes.{is_name_byte, is_word_byte, is_title, is_key, is_code_name}
-use Rattle.lk_read.specs.Utf8.{completes}
+use Rattle.lk_utf8.specs.Utf8.{completes}
 use Rattle.lk_read.specs.Grammar.{IsGap, IsRun, IsQuoted, IsEscape, IsCode, IsSemicolon, trimmed, IsScalar, AreEntries, IsValue, IsContent, IsOpening, depth_after, AreLines}
 use Rattle.lk_read.specs.Reading.{with_entry}
 

@@ -7,14 +7,14 @@ use Rattle.lk_read.specs.Entry as entry
 use Rattle.lk_read.specs.Outline.{Plain, word, quoted, list, code, Outline, no_more, leaf, branch, is_no_more}
 use Rattle.lk_read.specs.Lines.{Line, lines, closing}
 use Rattle.lk_read.specs.Bytes.{is_space, is_name_byte, is_word_byte, is_code_name}
-use Rattle.lk_read.specs.Utf8.{is_text}
+use Rattle.lk_utf8.specs.Utf8.{is_text}
 use Rattle.lk_read.specs.Grammar.{IsGap, IsRun, IsWhole, IsQuoted, IsString, IsCode, IsSemicolon, IsEntry, AreEntries, IsContent, IsOpening, IsNamed, AreLines, IsFile, without_front, with_front, without_end, trimmed, is_escaped}
 use Rattle.lk_read.specs.Canonical.{characters, escaped, string_text, entry_text, further_entries, entries_text, plain_text, title_text, start_text, block_text, text_at, canonical, unplaced, SpellsAgain}
 use Rattle.lk_read.proofs.Valid.{AreOf, IsOf, NoEnd, NotTwo, ValidEntry, ValidEntries, ValidPlain, ValidTitle, Valid, valid, Begun, front_begun}
-use Rattle.lk_read.specs.declared.utf8.Utf8.{Utf8}
-use Rattle.lk_read.specs.declared.utf8.Utf8.TheVariants as utf
-use Rattle.lk_read.specs.Utf8.{completes}
-use Rattle.lk_read.proofs.Steps.{completes_parts, completes_more, whole_is}
+use Rattle.lk_utf8.specs.declared.utf8.Utf8.{Utf8}
+use Rattle.lk_utf8.specs.declared.utf8.Utf8.TheVariants as utf
+use Rattle.lk_utf8.specs.Utf8.{completes}
+use Rattle.lk_utf8.proofs.CompletionLaws.{completes_parts, completes_more, whole_is}
 
 gap_none : (text : List ℕ) → IsGap text text
 gap_none [] = refl

@@ -1,14 +1,15 @@
 -- Tests on bytes, and what a step's tests decide.
-use Rattle.std.proofs.Common.{◌≡◌, ℕ, Bool, true, false, ◌&&◌, ◌||◌, ◌==◌, cond, List, [], ◌∷◌, ◌++◌, Option, Some, None, refl, ap, sym, ◌∙◌, subst, Ok, Err}
+use Rattle.std.proofs.Common.{◌≡◌, ℕ, Bool, true, false, ◌&&◌, ◌||◌, ◌==◌, cond, List, [], ◌∷◌, ◌++◌, Option, Some, None, refl, ap, sym, subst, Ok, Err}
 use Rattle.std.proofs.lemmas.Bool.{eqb-true}
 use Rattle.lk_read.specs.declared.read_fault.ReadFault.TheVariants as fault
 use Rattle.lk_read.specs.declared.reader.Reader.{Reader}
 use Rattle.lk_read.specs.declared.phase.Phase.{Phase}
-use Rattle.lk_read.specs.declared.utf8.Utf8.{Utf8}
-use Rattle.lk_read.specs.declared.utf8.Utf8.TheVariants as utf
+use Rattle.lk_utf8.specs.declared.utf8.Utf8.{Utf8}
+use Rattle.lk_utf8.specs.declared.utf8.Utf8.TheVariants as utf
 use Rattle.lk_read.specs.Built.{Built}
 use Rattle.lk_read.specs.Bytes.{is_space, is_name_byte, is_word_byte}
-use Rattle.lk_read.specs.Utf8.{completes, utf8_after, is_whole, goes_on}
+use Rattle.lk_utf8.specs.Utf8.{completes, utf8_after, is_whole}
+use Rattle.lk_utf8.proofs.CompletionLaws.{whole_is, completes_more, whole_at}
 use Rattle.lk_read.specs.Grammar.{is_escaped, unescaped}
 use Rattle.lk_read.specs.Reading.{Step, in_phase, goes_to}
 
@@ -38,24 +39,6 @@ back_by Rest (Err why) f h = tt
 pub by_next : (P : Step → Type 0) (built : Built) (next : Option Utf8) (now : Utf8 → Phase) (place : ℕ) → P (Err (fault.R4 place)) → ((v : Utf8) → next ≡ Some v → P (in_phase built (now v))) → P (goes_to built next now place)
 by_next P built None now place stop go = stop
 by_next P built (Some v) now place stop go = go v refl
-
-pub whole_is : (u : Utf8) → is_whole u ≡ true → u ≡ utf.Whole
-whole_is utf.Whole h = refl
-whole_is _ h = cc
-
--- no byte below 128 goes on with a character
-begins_none : (u v : Utf8) (b c : ℕ) → (b == c) ≡ true → utf8_after u c ≡ None → utf8_after u b ≡ Some v → ⊥
-begins_none u v b c h none some =
-    let same : utf8_after u c ≡ Some v = subst (λ x. utf8_after u x ≡ Some v) (eqb-true b c h) some in cc
-
--- a byte that goes on with a text is this one only where a character may begin
-pub apart : (u v : Utf8) (b c : ℕ) → ((x : Utf8) → is_whole x ≡ false → utf8_after x c ≡ None) → (is_whole u && (b == c)) ≡ false → utf8_after u b ≡ Some v → (b == c) ≡ false
-apart u v b c none h some = by_whole (is_whole u) (b == c) refl refl h
-  where
-    by_whole : (w e : Bool) → is_whole u ≡ w → (b == c) ≡ e → (w && e) ≡ false → e ≡ false
-    by_whole w false hw he h = refl
-    by_whole true true hw he h = h
-    by_whole false true hw he h = absurd (begins_none u v b c he (none u hw) some)
 
 pub no_quote : (x : Utf8) → is_whole x ≡ false → utf8_after x 34 ≡ None
 no_quote utf.Whole h = cc
@@ -91,10 +74,6 @@ pub neither : (a b : Bool) → a ≡ false → b ≡ false → (a || b) ≡ fals
 neither false false p q = refl
 neither true b p q = p
 neither false true p q = q
-
--- one more byte, and then what completes the text behind it
-pub completes_more : (u v : Utf8) (b : ℕ) (text : List ℕ) → utf8_after u b ≡ Some v → completes v text ≡ true → completes u (b ∷ text) ≡ true
-completes_more u v b text e h = ap (λ o. goes_on o (λ next. completes next text)) e ∙ h
 
 pub completes_unescaped : (v : Utf8) (b : ℕ) (text : List ℕ) → utf8_after utf.Whole b ≡ Some v → completes v text ≡ true → completes utf.Whole (unescaped b ++ text) ≡ true
 completes_unescaped v b text e h = by_escape (is_escaped b)
@@ -155,21 +134,6 @@ name_is_word b h = rw h
 
 pub begins_at : (b c : ℕ) → b ≡ c → BeginsPiece c → BeginsPiece b
 begins_at b c e h = subst BeginsPiece (sym e) h
-
-pub completes_parts : (u : Utf8) (b : ℕ) (text : List ℕ) → completes u (b ∷ text) ≡ true → (v : Utf8) × (utf8_after u b ≡ Some v) × (completes v text ≡ true)
-completes_parts u b text h = by_after (utf8_after u b) refl h
-  where
-    by_after : (o : Option Utf8) → utf8_after u b ≡ o → goes_on o (λ next. completes next text) ≡ true → (v : Utf8) × (utf8_after u b ≡ Some v) × (completes v text ≡ true)
-    by_after None e g = cc
-    by_after (Some v) e g = (v, e, g)
-
--- where a byte below 128 may stand, a character may begin
-pub whole_at : (u : Utf8) (c : ℕ) (text : List ℕ) → ((x : Utf8) → is_whole x ≡ false → utf8_after x c ≡ None) → completes u (c ∷ text) ≡ true → is_whole u ≡ true
-whole_at u c text none h = by_whole (is_whole u) refl
-  where
-    by_whole : (w : Bool) → is_whole u ≡ w → w ≡ true
-    by_whole true e = refl
-    by_whole false e = let p = completes_parts u c text h in let no = none u e in let some = p.1 in cc
 
 pub on_next : (Rest : Reader → Type 0) (built : Built) (next : Option Utf8) (v : Utf8) (now : Utf8 → Phase) (place : ℕ) → next ≡ Some v → On Rest (in_phase built (now v)) → On Rest (goes_to built next now place)
 on_next Rest built next v now place e r = subst (λ o. On Rest (goes_to built o now place)) (sym e) r

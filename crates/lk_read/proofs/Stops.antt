@@ -9,12 +9,12 @@ use Rattle.lk_read.specs.declared.phase.Slot.TheVariants as slot
 use Rattle.lk_read.specs.declared.phase.Phase.{Phase}
 use Rattle.lk_read.specs.declared.phase.Phase.TheVariants as phase
 use Rattle.lk_read.specs.declared.reader.Reader.{Reader}
-use Rattle.lk_read.specs.declared.utf8.Utf8.{Utf8}
-use Rattle.lk_read.specs.declared.utf8.Utf8.TheVariants as utf
+use Rattle.lk_utf8.specs.declared.utf8.Utf8.{Utf8}
+use Rattle.lk_utf8.specs.declared.utf8.Utf8.TheVariants as utf
 use Rattle.lk_read.specs.Outline.{word, code}
 use Rattle.lk_read.specs.Built.{Built, closed_of}
 use Rattle.lk_read.specs.Bytes.{is_space, is_name_byte, is_word_byte, is_title, is_key, is_code_name}
-use Rattle.lk_read.specs.Utf8.{utf8_after, is_whole}
+use Rattle.lk_utf8.specs.Utf8.{utf8_after, is_whole}
 use Rattle.lk_read.specs.Grammar.{unescaped, trimmed}
 use Rattle.lk_read.specs.Reading.{Step, in_phase, with_entry, with_plain, closed_to, between_at, colon_at, behind_colon, opened, block_opened, list_opened, list_ended, bracket_at, start_at, comma_at, behind_at, piece_at, gap_at, goes_to, string_ended, step_at, step}
 

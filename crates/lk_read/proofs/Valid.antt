@@ -1,18 +1,17 @@
 -- What a tree that some text spells has: names, words, texts and code of the grammar.
-use Rattle.std.proofs.Common.{◌≡◌, ℕ, suc, Bool, true, false, ◌&&◌, ◌==◌, nat_le, cond, ◌<◌, ◌≤◌, List, [], ◌∷◌, ◌++◌, inl, inr, Option, Some, None, length, refl, sym, ap, ◌∙◌, subst, arith, append_assoc}
-use Rattle.std.proofs.lemmas.Bool.{lt-ltb}
+use Rattle.std.proofs.Common.{◌≡◌, ℕ, suc, Bool, true, false, ◌&&◌, ◌==◌, cond, ◌<◌, List, [], ◌∷◌, ◌++◌, inl, inr, Option, Some, None, length, refl, sym, ap, ◌∙◌, subst, arith, append_assoc}
 use Rattle.std.proofs.lemmas.Bool.Decides.{nat_tests}
 use Rattle.std.proofs.lemmas.List.{append-nil}
 use Rattle.lk_read.specs.Entry.{Entry}
 use Rattle.lk_read.specs.Entry as entry
-use Rattle.lk_read.specs.declared.utf8.Utf8.{Utf8}
-use Rattle.lk_read.specs.declared.utf8.Utf8.TheVariants as utf
+use Rattle.lk_utf8.specs.declared.utf8.Utf8.{Utf8}
+use Rattle.lk_utf8.specs.declared.utf8.Utf8.TheVariants as utf
 use Rattle.lk_read.specs.Outline.{Plain, word, quoted, list, code, Outline, no_more, leaf, branch}
 use Rattle.lk_read.specs.Lines.{Line, lines, closing}
 use Rattle.lk_read.specs.Bytes.{is_space, is_name_byte, is_word_byte, is_title, is_key, is_code_name}
-use Rattle.lk_read.specs.Utf8.{completes, utf8_after, is_whole, is_text, owed}
+use Rattle.lk_utf8.specs.Utf8.{completes, utf8_after, is_whole, is_text}
 use Rattle.lk_read.specs.Grammar.{IsRun, IsWhole, IsCode, IsSemicolon, IsScalar, IsEntry, AreEntries, IsContent, IsOpening, AreLines, IsFile, without_front, with_front, without_end, trimmed}
-use Rattle.lk_read.proofs.Steps.{completes_parts, completes_more, whole_at}
+use Rattle.lk_utf8.proofs.CompletionLaws.{completes_parts, completes_more, whole_at, small_begins, small_none}
 
 -- ---- bytes of a kind
 
@@ -34,27 +33,6 @@ whole_kind is_kind [] run rest w = absurd w
 whole_kind is_kind (b ∷ text) run rest (h, more, f, r) = subst (IsOf is_kind) (sym f) (h, run_kind is_kind text more rest r)
 
 -- ---- texts
-
--- a byte below 128 is a character
-small_begins : (b : ℕ) → b < 128 → utf8_after utf.Whole b ≡ Some utf.Whole
-small_begins b h = ap (λ c. cond c (Some utf.Whole) (begun_above b)) (lt-ltb b 128 h)
-  where
-    begun_above : ℕ → Option Utf8
-    begun_above x = cond (nat_le 194 x && nat_le x 223) (Some utf.One) (cond (x == 224) (Some utf.BehindE0) (cond (x == 237) (Some utf.BehindEd) (cond (nat_le 225 x && nat_le x 239) (Some utf.Two) (cond (x == 240) (Some utf.BehindF0) (cond (nat_le 241 x && nat_le x 243) (Some utf.Three) (cond (x == 244) (Some utf.BehindF4) None))))))
-
-owed_none : (low high b : ℕ) (rest : Utf8) → 128 ≤ low → b < 128 → owed low high b rest ≡ None
-owed_none low high b rest lo small = grind (arith, nat_tests)
-
--- and stands where a character may begin
-small_none : (b : ℕ) → b < 128 → (x : Utf8) → is_whole x ≡ false → utf8_after x b ≡ None
-small_none b small utf.Whole h = cc
-small_none b small utf.One h = owed_none 128 191 b utf.Whole (omega arith) small
-small_none b small utf.Two h = owed_none 128 191 b utf.One (omega arith) small
-small_none b small utf.Three h = owed_none 128 191 b utf.Two (omega arith) small
-small_none b small utf.BehindE0 h = owed_none 160 191 b utf.One (omega arith) small
-small_none b small utf.BehindEd h = owed_none 128 159 b utf.One (omega arith) small
-small_none b small utf.BehindF0 h = owed_none 144 191 b utf.Two (omega arith) small
-small_none b small utf.BehindF4 h = owed_none 128 143 b utf.Two (omega arith) small
 
 space_small : (b : ℕ) → is_space b ≡ true → b < 128
 space_small b h = grind (arith, nat_tests)

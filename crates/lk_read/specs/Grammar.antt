@@ -6,7 +6,7 @@ use Rattle.lk_read.specs.Entry as entry
 use Rattle.lk_read.specs.Outline.{Outline, Plain, word, quoted, list, code}
 use Rattle.lk_read.specs.Lines.{Line, lines, plain, block, closing}
 use Rattle.lk_read.specs.Bytes.{is_space, is_name_byte, is_word_byte, is_title, is_key, is_code_name}
-use Rattle.lk_read.specs.Utf8.{is_text}
+use Rattle.lk_utf8.specs.Utf8.{is_text}
 
 -- ---- between pieces
 

@@ -3,7 +3,6 @@ pub mod Entry
 pub mod Outline
 pub mod OutlineCode
 pub mod Bytes
-pub mod Utf8
 pub mod Grammar
 pub mod Built
 pub mod FrameLines

@@ -11,13 +11,13 @@ use Rattle.lk_read.specs.declared.phase.Slot.TheVariants as slot
 use Rattle.lk_read.specs.declared.phase.Phase.{Phase}
 use Rattle.lk_read.specs.declared.phase.Phase.TheVariants as phase
 use Rattle.lk_read.specs.declared.reader.Reader.{Reader}
-use Rattle.lk_read.specs.declared.utf8.Utf8.{Utf8}
-use Rattle.lk_read.specs.declared.utf8.Utf8.TheVariants as utf
+use Rattle.lk_utf8.specs.declared.utf8.Utf8.{Utf8}
+use Rattle.lk_utf8.specs.declared.utf8.Utf8.TheVariants as utf
 use Rattle.lk_read.specs.Outline.{Outline, Plain, word, quoted, list, code}
 use Rattle.lk_read.specs.Lines.{Line, lines, plain}
 use Rattle.lk_read.specs.Built.{Built, nothing_built, with_lines, with_block, closed_of, first_of}
 use Rattle.lk_read.specs.Bytes.{is_space, is_name_byte, is_word_byte, is_title, is_key, is_code_name}
-use Rattle.lk_read.specs.Utf8.{utf8_after, is_whole}
+use Rattle.lk_utf8.specs.Utf8.{utf8_after, is_whole}
 use Rattle.lk_read.specs.Grammar.{unescaped, trimmed}
 
 -- a step: the reader behind one more byte, or the fault at it

@@ -12,14 +12,12 @@ mod reader;
 mod string;
 mod tree;
 mod trim;
-mod utf8;
 mod value;
 
 pub use file::read_file;
 pub use print::print_tree;
 pub use read_fault::{ReadFault, a_text_has_one_fault};
 pub use tree::{Entries, Entry, Item, Node, Tree};
-pub use utf8::whole_characters_are_utf8;
 
 #[cfg(test)]
 mod tests;

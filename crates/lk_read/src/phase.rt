@@ -1,5 +1,5 @@
 use crate::tree::Entries;
-use crate::utf8::Utf8;
+use lk_utf8::Utf8;
 use lk_val::{Bytes, Text};
 
 /// A parameter whose value is read: its name, and the place of its name.

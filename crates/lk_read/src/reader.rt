@@ -9,8 +9,8 @@ use crate::phase::{Param, Phase, Slot};
 use crate::pieces::{one_byte, text_of, with_byte};
 use crate::read_fault::ReadFault;
 use crate::string::{code_at, escape_at, quoted_at, semicolon_at};
-use crate::utf8::Utf8;
 use crate::value::{behind_at, comma_at, start_at};
+use lk_utf8::Utf8;
 use lk_val::Bytes;
 use std::alloc::Global;
 

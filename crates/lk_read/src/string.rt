@@ -9,7 +9,7 @@ use crate::read_fault::ReadFault;
 use crate::reader::Reader;
 use crate::tree::{Entry, Node};
 use crate::trim::trimmed;
-use crate::utf8::{Utf8, is_whole, utf8_after};
+use lk_utf8::{Utf8, is_whole, utf8_after};
 use lk_val::{Bytes, Text};
 use std::alloc::Global;
 

@@ -8,7 +8,7 @@ use crate::pieces::{one_byte, with_entry, with_value};
 use crate::read_fault::ReadFault;
 use crate::reader::{Reader, between_at};
 use crate::tree::{Entries, Entry, Node};
-use crate::utf8::Utf8;
+use lk_utf8::Utf8;
 use lk_val::{Bytes, Text};
 use std::alloc::Global;
 

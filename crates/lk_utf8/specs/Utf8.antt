@@ -1,7 +1,7 @@
 -- Texts in UTF-8, by the table of RFC 3629, section 4.
 use Rattle.std.specs.Prelude.{ℕ, Bool, true, false, ◌&&◌, ◌==◌, nat_le, nat_lt, List, [], ◌∷◌, Option, Some, None, if◌then◌else◌}
-use Rattle.lk_read.specs.declared.utf8.Utf8.{Utf8}
-use Rattle.lk_read.specs.declared.utf8.Utf8.TheVariants.{Whole, One, Two, Three, BehindE0, BehindEd, BehindF0, BehindF4}
+use Rattle.lk_utf8.specs.declared.utf8.Utf8.{Utf8}
+use Rattle.lk_utf8.specs.declared.utf8.Utf8.TheVariants.{Whole, One, Two, Three, BehindE0, BehindEd, BehindF0, BehindF4}
 
 -- the byte is within these bounds, and then this is owed
 abbrev pub owed : ℕ → ℕ → ℕ → Utf8 → Option Utf8
@@ -35,6 +35,7 @@ abbrev pub is_whole : Utf8 → Bool
 is_whole Whole = true
 is_whole _ = false
 
+-- a byte stands there, and the rest is as it has to be
 abbrev pub goes_on : Option Utf8 → (Utf8 → Bool) → Bool
 goes_on None is_rest = false
 goes_on (Some utf8) is_rest = is_rest utf8
@@ -47,3 +48,14 @@ completes utf8 (b ∷ text) = goes_on (utf8_after utf8 b) (λ next. completes ne
 -- the bytes are whole characters
 abbrev pub is_text : List ℕ → Bool
 is_text text = completes Whole text
+
+-- the least bytes that complete a text that owes this
+abbrev pub ending : Utf8 → List ℕ
+ending Whole = []
+ending One = 128 ∷ []
+ending Two = 128 ∷ 128 ∷ []
+ending Three = 128 ∷ 128 ∷ 128 ∷ []
+ending BehindE0 = 160 ∷ 128 ∷ []
+ending BehindEd = 128 ∷ 128 ∷ []
+ending BehindF0 = 144 ∷ 128 ∷ 128 ∷ []
+ending BehindF4 = 128 ∷ 128 ∷ 128 ∷ []

@@ -1,22 +1,32 @@
 ghost use Rattle.std.specs.Prelude.{◌≡◌, ℕ, List, true};
 ghost use Rattle.std.specs.Str.{is_utf8};
-ghost use Rattle.lk_read.specs.Utf8.{utf8_after, is_text, is_whole, begun, owed};
+ghost use Rattle.lk_utf8.specs.Utf8.{utf8_after, is_text, is_whole, begun, owed};
 
 /// What a text in UTF-8 owes behind the bytes so far: nothing, or the last bytes of a character.
+/// (RFC 3629, section 4)
 #[derive(Clone, Copy, Debug, PartialEq, Eq)]
-pub(crate) enum Utf8 {
+pub enum Utf8 {
+    /// Nothing: a character may begin.
     Whole,
+    /// One byte from 80 to BF.
     One,
+    /// Two bytes from 80 to BF.
     Two,
+    /// Three bytes from 80 to BF.
     Three,
+    /// A byte from A0 to BF, and one more: less has a character of two bytes.
     BehindE0,
+    /// A byte from 80 to 9F, and one more: past it stand surrogates, which are no characters.
     BehindEd,
+    /// A byte from 90 to BF, and two more: less has a character of three bytes.
     BehindF0,
+    /// A byte from 80 to 8F, and two more: the last character is 10FFFF.
     BehindF4,
 }
 
-/// What is owed behind one more byte, where it may stand there. (RFC 3629, section 4)
-pub(crate) fn utf8_after(utf8: Utf8, byte: u8) -> Option<Utf8>
+/// What is owed behind one more byte; none where the byte may not stand there.
+/// (RFC 3629, section 4)
+pub fn utf8_after(utf8: Utf8, byte: u8) -> Option<Utf8>
     ensures { result ≡ utf8_after utf8 byte }
 {
     match utf8 {
@@ -59,14 +69,16 @@ fn owe(low: u8, high: u8, byte: u8, rest: Utf8) -> Option<Utf8>
     }
 }
 
-/// Whether nothing is owed.
-pub(crate) fn is_whole(utf8: Utf8) -> bool
+/// Whether nothing is owed: the bytes so far are whole characters. (RFC 3629, section 4)
+pub fn is_whole(utf8: Utf8) -> bool
     ensures { result ≡ is_whole utf8 }
 {
     matches!(utf8, Utf8::Whole)
 }
 
-/// Whole characters by the table are texts in UTF-8, so each string, word and code that is read makes a text.
+/// Texts of whole characters by the table of RFC 3629, section 4, are what the standard library
+/// takes as UTF-8, and nothing else is.
 pub fn whole_characters_are_utf8()
-    ensures { (text : List ℕ) → is_text text ≡ true → is_utf8 text ≡ true }
+    ensures whole { (text : List ℕ) → is_text text ≡ true → is_utf8 text ≡ true }
+    ensures every { (text : List ℕ) → is_utf8 text ≡ true → is_text text ≡ true }
 {}

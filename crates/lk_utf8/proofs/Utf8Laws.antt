@@ -1,14 +1,15 @@
 -- Whole characters by the table are texts in UTF-8.
-use Rattle.std.proofs.Common.{◌≡◌, ℕ, Bool, true, false, ◌&&◌, ◌==◌, nat_lt, nat_le, cond, ◌+◌, ◌-◌, ◌*◌, ◌/◌, ◌%◌, ◌<◌, ◌≤◌, List, [], ◌∷◌, ◌++◌, ◌⊎◌, inl, inr, Option, Some, None, refl, sym, ◌∙◌, subst, arith, IsUtf8}
+use Rattle.std.proofs.Common.{◌≡◌, ℕ, Bool, true, false, ◌&&◌, ◌==◌, nat_lt, nat_le, cond, ◌+◌, ◌-◌, ◌*◌, ◌<◌, ◌≤◌, List, [], ◌∷◌, ◌++◌, inl, inr, Option, Some, None, refl, sym, ◌∙◌, subst, arith, IsUtf8}
 use Rattle.std.proofs.lemmas.Bool.{cases_lt, eqb-true, eqb-false, ltb-true}
 use Rattle.std.proofs.lemmas.Bool.Decides.{nat_tests}
 use Rattle.std.proofs.lemmas.Str.{is_utf8-from_IsUtf8, IsUtf8-append, IsUtf8-nil, IsUtf8-encode, encode_ascii}
 use Rattle.std.specs.Str.{is_utf8}
 use lib.Utf8.{scalar, encode, low_scalar}
-use Rattle.lk_read.specs.declared.utf8.Utf8.{Utf8}
-use Rattle.lk_read.specs.declared.utf8.Utf8.TheVariants as utf
-use Rattle.lk_read.specs.Utf8.{completes, utf8_after, is_text, owed, begun}
-use Rattle.lk_read.proofs.Steps.{completes_parts}
+use Rattle.lk_utf8.specs.declared.utf8.Utf8.{Utf8}
+use Rattle.lk_utf8.specs.declared.utf8.Utf8.TheVariants as utf
+use Rattle.lk_utf8.specs.Utf8.{completes, utf8_after, is_text, owed, begun}
+use Rattle.lk_utf8.proofs.CompletionLaws.{completes_parts}
+use Rattle.lk_utf8.proofs.Encodings.{Within, encode_two, encode_three, encode_four, scalar_three}
 
 -- the first bytes behind which so much is owed
 abbrev Begins : Utf8 → ℕ → Type 0
@@ -44,10 +45,6 @@ begun_by a =
 begins_by : (a : ℕ) (u : Utf8) → begun a ≡ Some u → Begins u a
 begins_by a u e = subst (OnSome (λ v. Begins v a)) e (begun_by a)
 
--- a byte within bounds
-abbrev Within : ℕ → ℕ → ℕ → Type 0
-Within low high b = (low ≤ b) × (b ≤ high)
-
 owed_by : (low high b : ℕ) (rest u : Utf8) → owed low high b rest ≡ Some u → Within low high b × (u ≡ rest)
 owed_by low high b rest u e = subst (OnSome (λ v. Within low high b × (v ≡ rest))) e (owed_some low high b rest)
   where
@@ -58,45 +55,6 @@ owed_by low high b rest u e = subst (OnSome (λ v. Within low high b × (v ≡ r
 
 one_more : (c : ℕ) (bytes rest : List ℕ) → scalar c ≡ true → encode c ≡ bytes → IsUtf8 rest → IsUtf8 (bytes ++ rest)
 one_more c bytes rest s e u = IsUtf8-append bytes rest (subst IsUtf8 e (IsUtf8-encode c s)) u
-
-encode_two : (c a b : ℕ) → 194 ≤ a → a ≤ 223 → 128 ≤ b → b ≤ 191 → c ≡ 64 * (a - 192) + (b - 128) → encode c ≡ a ∷ b ∷ []
-unfolding encode
-encode_two c a b la ha lb hb e =
-    let big : nat_lt c 128 ≡ false = grind (arith, nat_tests) in
-    let small : nat_lt c 2048 ≡ true = grind (arith, nat_tests) in
-    let first : 192 + c / 64 ≡ a = omega arith in
-    let second : 128 + c % 64 ≡ b = omega arith in
-    rw (big, small, first, second) refl
-
-encode_three : (c a b d : ℕ) → 224 ≤ a → a ≤ 239 → 128 ≤ b → b ≤ 191 → 128 ≤ d → d ≤ 191 → 2048 ≤ c → c ≡ 4096 * (a - 224) + 64 * (b - 128) + (d - 128) → encode c ≡ a ∷ b ∷ d ∷ []
-unfolding encode
-encode_three c a b d la ha lb hb ld hd lc e =
-    let t1 : nat_lt c 128 ≡ false = grind (arith, nat_tests) in
-    let t2 : nat_lt c 2048 ≡ false = grind (arith, nat_tests) in
-    let t3 : nat_lt c 65536 ≡ true = grind (arith, nat_tests) in
-    let q : c / 64 ≡ 64 * (a - 224) + (b - 128) = omega arith in
-    let first : 224 + c / 4096 ≡ a = omega arith in
-    let second : 128 + c / 64 % 64 ≡ b = omega arith in
-    let third : 128 + c % 64 ≡ d = omega arith in
-    rw (t1, t2, t3, first, second, third) refl
-
-encode_four : (c a b d f : ℕ) → 240 ≤ a → a ≤ 244 → 128 ≤ b → b ≤ 191 → 128 ≤ d → d ≤ 191 → 128 ≤ f → f ≤ 191 → 65536 ≤ c → c ≡ 262144 * (a - 240) + 4096 * (b - 128) + 64 * (d - 128) + (f - 128) → encode c ≡ a ∷ b ∷ d ∷ f ∷ []
-unfolding encode
-encode_four c a b d f la ha lb hb ld hd lf hf lc e =
-    let t1 : nat_lt c 128 ≡ false = grind (arith, nat_tests) in
-    let t2 : nat_lt c 2048 ≡ false = grind (arith, nat_tests) in
-    let t3 : nat_lt c 65536 ≡ false = grind (arith, nat_tests) in
-    let q1 : c / 64 ≡ 4096 * (a - 240) + 64 * (b - 128) + (d - 128) = omega arith in
-    let q2 : c / 4096 ≡ 64 * (a - 240) + (b - 128) = omega arith in
-    let first : 240 + c / 262144 ≡ a = omega arith in
-    let second : 128 + c / 4096 % 64 ≡ b = omega arith in
-    let third : 128 + c / 64 % 64 ≡ d = omega arith in
-    let fourth : 128 + c % 64 ≡ f = omega arith in
-    rw (t1, t2, t3, first, second, third, fourth) refl
-
-scalar_three : (c : ℕ) → c < 55296 ⊎ ((57344 ≤ c) × (c < 1114112)) → scalar c ≡ true
-scalar_three c (inl h) = low_scalar c h
-scalar_three c (inr h) = grind (arith, nat_tests)
 
 -- a byte that is owed, and what is owed behind it
 step_by : (u rest : Utf8) (low high b : ℕ) (text : List ℕ) → utf8_after u b ≡ owed low high b rest → completes u (b ∷ text) ≡ true → Within low high b × (completes rest text ≡ true)
