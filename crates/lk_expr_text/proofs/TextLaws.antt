@@ -69,7 +69,7 @@ module _ (whole : ℕ) where
   no_return [] = refl
   no_return (b ∷ text) = refl
 
-  no_space : (b : ℕ) (text : List ℕ) → is_space b ≡ true → first_token whole (b ∷ text) ≡ None
+  pub no_space : (b : ℕ) (text : List ℕ) → is_space b ≡ true → first_token whole (b ∷ text) ≡ None
   no_space b text h =
       elim (either_is whole (nat_eq b 32) _ h) [
         | inl p ↦ rw (same b 32 p) (no_token text)
@@ -116,7 +116,7 @@ module _ (whole : ℕ) where
   comparison_some comparison.Greater e = cc
   comparison_some comparison.AtLeast e = cc
 
-  token_some : (t : Token) (rest : List ℕ) → IsTokenAt whole t [] rest → ⊥
+  pub token_some : (t : Token) (rest : List ℕ) → IsTokenAt whole t [] rest → ⊥
   token_some (token.Word k) rest h = false≢true h.0
   token_some (token.Name name place) rest h = false≢true (rw (← h.0) at h.1)
   token_some (token.Compare c) rest h = comparison_some c h.0

@@ -5,5 +5,7 @@ pub mod RawCode
 pub mod Calls
 pub mod TokenKinds
 pub mod TokenFronts
+pub mod KindForms
+pub mod Quoting
 pub mod Parsing
 pub mod ParsedCode

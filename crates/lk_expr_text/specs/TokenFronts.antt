@@ -1,11 +1,11 @@
 -- The tokens in front of a text that spells no expression, and what begins a token of a kind.
-use Rattle.std.specs.Prelude.{◌≡◌, ℕ, zero, suc, ◌+◌, Bool, true, not, ◌&&◌, nat_eq, if◌then◌else◌, List, [], ◌∷◌, ◌++◌, length, take, Some, None}
+use Rattle.std.specs.Prelude.{◌≡◌, ℕ, ◌+◌, Bool, true, not, ◌&&◌, nat_eq, if◌then◌else◌, List, [], ◌∷◌, ◌++◌, length, take, Option, Some, None, option_map}
 use Rattle.std.specs.List.{list_all}
 use Rattle.lk_grammar.specs.Numbers.{unsigned_length}
 use Rattle.lk_expr_text.specs.declared.token.Token.{Token}
 use Rattle.lk_expr_text.specs.declared.kind.TokenKind.{TokenKind}
 use Rattle.lk_expr_text.specs.Tokens.{is_number, is_space, IsTokenAt, IsLed}
-use Rattle.lk_expr_text.specs.Lexing.{Found, first_token}
+use Rattle.lk_expr_text.specs.Lexing.{first_token}
 use Rattle.lk_expr_text.specs.TokenKinds.{token_kind, token_byte}
 
 -- a number comes first that no table may hold: it is out of range, or has a digit other than 0 past the fourth place
@@ -40,23 +40,27 @@ abbrev pub behind_spaces : List ℕ → List ℕ
 behind_spaces [] = []
 behind_spaces (b ∷ text) = if is_space b then behind_spaces text else b ∷ text
 
-abbrev pub then_bytes : Found → (List ℕ → List ℕ) → List ℕ
-then_bytes None more = []
-then_bytes (Some (t, rest)) more = token_byte t ∷ more rest
+-- the kind of the token behind the first spaces, as its byte, and what is behind the token; the text ends one of so many bytes
+abbrev pub first_kind : ℕ → List ℕ → Option (ℕ × List ℕ)
+first_kind whole text = option_map (λ first. (token_byte first.0, first.1)) (first_token whole (behind_spaces text))
 
--- the kinds of the tokens in front of a text, as far as they are read, with fuel for each; it ends a text of so many bytes
+abbrev pub then_bytes : Option (ℕ × List ℕ) → (List ℕ → List ℕ) → List ℕ
+then_bytes None more = []
+then_bytes (Some first) more = first.0 ∷ more first.1
+
+-- the kinds of the tokens in front of a text, as far as they are read, with fuel for each
 abbrev pub kinds_from : ℕ → List ℕ → List ℕ → List ℕ
 kinds_from whole [] text = []
-kinds_from whole (f ∷ fuel) text = then_bytes (first_token whole (behind_spaces text)) (kinds_from whole fuel)
+kinds_from whole (f ∷ fuel) text = then_bytes (first_kind whole text) (kinds_from whole fuel)
 
 abbrev pub kinds_in : List ℕ → List ℕ
 kinds_in text = kinds_from (length text) text text
 
-abbrev pub then_rest : Found → (List ℕ → List ℕ) → List ℕ → List ℕ
+abbrev pub then_rest : Option (ℕ × List ℕ) → (List ℕ → List ℕ) → List ℕ → List ℕ
 then_rest None more text = text
-then_rest (Some (t, rest)) more text = more rest
+then_rest (Some first) more text = more first.1
 
--- what is behind so many tokens in front of a text and the spaces behind them
-abbrev pub behind_tokens : ℕ → ℕ → List ℕ → List ℕ
-behind_tokens whole zero text = behind_spaces text
-behind_tokens whole (suc count) text = then_rest (first_token whole (behind_spaces text)) (behind_tokens whole count) (behind_spaces text)
+-- what is behind as many tokens in front of a text as there are kinds, and behind the spaces that follow them
+abbrev pub behind_tokens : ℕ → List ℕ → List ℕ → List ℕ
+behind_tokens whole [] text = behind_spaces text
+behind_tokens whole (k ∷ kinds) text = then_rest (first_kind whole text) (behind_tokens whole kinds) (behind_spaces text)

@@ -59,7 +59,7 @@ fn tokens_of(alloc: Global, text: &[u8]) -> Result<Option<Items<Token>>, NoMemor
 
 // The token in front of a text, and what is behind it.
 #[tactic(auto, unfolding(crate::specs::Lexing::first_token))]
-fn first_token(alloc: Global, whole: usize, text: &[u8]) -> Result<Found<'_>, NoMemory>
+pub(crate) fn first_token(alloc: Global, whole: usize, text: &[u8]) -> Result<Found<'_>, NoMemory>
     ensures { IfOk result (λ found. option_map (λ first. (first.0, first.1.now)) found ≡ first_token whole text.now) }
 {
     match text.split_first() {
@@ -156,7 +156,7 @@ fn first_number(alloc: Global, text: &[u8]) -> Result<Found<'_>, NoMemory>
 }
 
 // Whether the text is a number in range.
-fn is_number(text: &[u8]) -> bool
+pub(crate) fn is_number(text: &[u8]) -> bool
     ensures { result ≡ is_number text.now }
 {
     Num::read(text).is_ok()

@@ -2,20 +2,25 @@
 #![tactic(auto)]
 
 mod calls;
+mod fronts;
 mod grown;
 mod kind;
 mod lexer;
 mod measure;
 mod parser;
+mod quoting;
 mod raw;
 mod reading;
+mod scan;
 mod token;
 
 pub use calls::unknown_call;
+pub use fronts::begun;
 pub use kind::{TOKEN_KINDS, TokenKind, kind_byte, token_kind};
 pub use measure::parse_measure;
 pub use raw::{Joint, RawArgs, RawBranches, RawExpr};
 pub use reading::parse_expr;
+pub use scan::{behind_tokens, is_unread, kinds_in};
 pub use token::{Keyword, Sign, Token};
 
 #[cfg(test)]

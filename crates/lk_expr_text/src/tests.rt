@@ -207,3 +207,33 @@ fn measures_have_numbers_and_references_alone(rt: HostRuntime) -> Result<(), Fai
     }
     Ok(())
 }
+
+#[test]
+fn the_longest_front_that_begins_a_token_is_counted(rt: HostRuntime) -> Result<(), Fail> {
+    let cases: [(TokenKind, &[u8], usize); 16] = [
+        (TokenKind::Word(Keyword::Not), b"NULL", 1),
+        (TokenKind::Word(Keyword::Between), b"bEtWeEn 1", 7),
+        (TokenKind::Sign(Sign::Concat), b"|x", 1),
+        (TokenKind::MeasureFunction, b"coalES(", 6),
+        (TokenKind::Name, b"NOTx ", 4),
+        (TokenKind::Name, b"1x", 0),
+        (TokenKind::Compare, b"<==", 2),
+        (TokenKind::Number, b"1.x", 2),
+        (TokenKind::Number, b"1.5.2", 3),
+        (TokenKind::Text, b"'\xc3(", 2),
+        (TokenKind::Text, b"'it''s' ", 7),
+        (TokenKind::Column, b"${TABLE}.x + 1", 10),
+        (TokenKind::Column, b"${TABLE}.\"x`", 11),
+        (TokenKind::Field, b"${TABLE}.x", 8),
+        (TokenKind::FieldOf, b"${orders.price}.", 15),
+        (TokenKind::FieldOf, b"", 0),
+    ];
+    for (kind, text, wanted) in cases {
+        assert_eq!(rt;
+            begun(rt.alloc(), kind, text).or(Err("memory"))?,
+            wanted,
+            "{kind:?} {text:?}"
+        );
+    }
+    Ok(())
+}

@@ -97,7 +97,7 @@ fn keyword_among(keywords: &[Keyword], letters: &[u8]) -> Option<Keyword>
     None
 }
 
-fn letters_of(keyword: Keyword) -> &'static [u8]
+pub(crate) fn letters_of(keyword: Keyword) -> &'static [u8]
     ensures { result.now ≡ letters_of keyword }
 {
     match keyword {

@@ -1,0 +1,162 @@
+ghost use Rattle.std.specs.Prelude.{◌≡◌, IfOk, true, false};
+ghost use Rattle.lk_grammar.specs.Forms.{IsText, is_live};
+ghost use Rattle.lk_grammar.specs.Places.{IsPlace};
+ghost use Rattle.lk_expr_text.specs.Tokens.{sign_text};
+ghost use Rattle.lk_expr_text.specs.TokenFronts.{IsOfKind, is_unread};
+ghost use Rattle.lk_expr_text.specs.KindForms.{bare_name, column, comparison, field, field_of, kind_form, letter, measure_function, name, name_byte, quoted};
+
+use crate::kind::TokenKind;
+use crate::quoting::text_front;
+use crate::token::{Sign, letters_of};
+use lk_grammar::{Form, judge, unsigned_number};
+use lk_val::NoMemory;
+use std::alloc::Global;
+
+/// The length of the longest front of the text that begins a token of the kind: where a text that was to go on
+/// with such a token goes wrong. Keywords and functions stand in any case, and a keyword begins a name, since
+/// longer names go on from it. Nothing is said where a number comes first that no table may hold. (lookd)
+pub fn begun(alloc: Global, kind: TokenKind, text: &[u8]) -> Result<usize, NoMemory>
+    ensures { IfOk result (λ n. is_unread text.now ≡ false → IsPlace (IsOfKind kind) text.now n) }
+{
+    match kind_form(alloc, kind)? {
+        Some(form) => place_in(alloc, &form, text),
+        None => Ok(text_front(text)),
+    }
+}
+
+// The form of a kind; texts have none.
+#[tactic(auto, unfolding(crate::specs::KindForms::kind_form))]
+fn kind_form(alloc: Global, kind: TokenKind) -> Result<Option<Form>, NoMemory>
+    ensures { IfOk result (λ form. form ≡ kind_form kind) }
+{
+    let form = match kind {
+        TokenKind::Word(keyword) => Form::letters(alloc, letters_of(keyword))?,
+        TokenKind::Sign(sign) => Form::exactly(alloc, sign_text(sign))?,
+        TokenKind::MeasureFunction => measure_function(alloc)?,
+        TokenKind::Name => bare_name(alloc)?,
+        TokenKind::Compare => comparison(alloc)?,
+        TokenKind::Number => unsigned_number(alloc)?,
+        TokenKind::Text => return Ok(None),
+        TokenKind::Column => column(alloc)?,
+        TokenKind::Field => field(alloc)?,
+        TokenKind::FieldOf => field_of(alloc)?,
+    };
+    Ok(Some(form))
+}
+
+fn sign_text(sign: Sign) -> &'static [u8]
+    ensures { result.now ≡ sign_text sign }
+{
+    match sign {
+        Sign::Plus => b"+",
+        Sign::Minus => b"-",
+        Sign::Concat => b"||",
+        Sign::Times => b"*",
+        Sign::Over => b"/",
+        Sign::Open => b"(",
+        Sign::Close => b")",
+        Sign::Comma => b",",
+    }
+}
+
+// The names of the functions of measures, in any case.
+fn measure_function(alloc: Global) -> Result<Form, NoMemory>
+    ensures { IfOk result (λ form. form ≡ measure_function) }
+{
+    let coalesce = Form::letters(alloc, b"coalesce")?;
+    Form::either(alloc, coalesce, Form::letters(alloc, b"nullif")?)
+}
+
+// A bare name, which may be a keyword too.
+fn bare_name(alloc: Global) -> Result<Form, NoMemory>
+    ensures { IfOk result (λ form. form ≡ bare_name) }
+{
+    let more = Form::many(alloc, name_byte(alloc)?)?;
+    Form::seq(alloc, letter(alloc)?, more)
+}
+
+fn name(alloc: Global) -> Result<Form, NoMemory>
+    ensures { IfOk result (λ form. form ≡ name) }
+{
+    let more = Form::many(alloc, name_byte(alloc)?)?;
+    Form::seq(alloc, name_byte(alloc)?, more)
+}
+
+fn name_byte(alloc: Global) -> Result<Form, NoMemory>
+    ensures { IfOk result (λ form. form ≡ name_byte) }
+{
+    Form::either(alloc, letter(alloc)?, Form::range(b'0', b'9'))
+}
+
+// A letter or an underscore.
+fn letter(alloc: Global) -> Result<Form, NoMemory>
+    ensures { IfOk result (λ form. form ≡ letter) }
+{
+    let letters = Form::either(alloc, Form::range(b'a', b'z'), Form::range(b'A', b'Z'))?;
+    Form::either(alloc, letters, Form::byte(b'_'))
+}
+
+// The texts of the comparisons.
+fn comparison(alloc: Global) -> Result<Form, NoMemory>
+    ensures { IfOk result (λ form. form ≡ comparison) }
+{
+    let mut forms = Vec::new(alloc);
+    forms.push(Form::exactly(alloc, b"=")?)?;
+    forms.push(Form::exactly(alloc, b"<>")?)?;
+    forms.push(Form::exactly(alloc, b"!=")?)?;
+    forms.push(Form::exactly(alloc, b"<")?)?;
+    forms.push(Form::exactly(alloc, b"<=")?)?;
+    forms.push(Form::exactly(alloc, b">")?)?;
+    forms.push(Form::exactly(alloc, b">=")?)?;
+    Form::choice(alloc, forms)
+}
+
+// A column of the view's own table, bare or between quotes of two sorts.
+fn column(alloc: Global) -> Result<Form, NoMemory>
+    ensures { IfOk result (λ form. form ≡ column) }
+{
+    let table = Form::exactly(alloc, b"${TABLE}.")?;
+    let quoted_name = Form::either(alloc, quoted(alloc, b'"')?, quoted(alloc, b'`')?)?;
+    Form::seq(
+        alloc,
+        table,
+        Form::either(alloc, name(alloc)?, quoted_name)?,
+    )
+}
+
+// A name between two bytes.
+fn quoted(alloc: Global, quote: u8) -> Result<Form, NoMemory>
+    ensures { IfOk result (λ form. form ≡ quoted quote) }
+{
+    let closed = Form::seq(alloc, name(alloc)?, Form::byte(quote))?;
+    Form::seq(alloc, Form::byte(quote), closed)
+}
+
+// A field of the same view.
+fn field(alloc: Global) -> Result<Form, NoMemory>
+    ensures { IfOk result (λ form. form ≡ field) }
+{
+    let opening = Form::exactly(alloc, b"${")?;
+    let closed = Form::seq(alloc, name(alloc)?, Form::byte(b'}'))?;
+    Form::seq(alloc, opening, closed)
+}
+
+// A field of a view.
+fn field_of(alloc: Global) -> Result<Form, NoMemory>
+    ensures { IfOk result (λ form. form ≡ field_of) }
+{
+    let opening = Form::exactly(alloc, b"${")?;
+    let closed = Form::seq(alloc, name(alloc)?, Form::byte(b'}'))?;
+    let dotted = Form::seq(alloc, Form::byte(b'.'), closed)?;
+    Form::seq(alloc, opening, Form::seq(alloc, name(alloc)?, dotted)?)
+}
+
+// The place of the text in a form in which nothing nests.
+fn place_in(alloc: Global, form: &Form, text: &[u8]) -> Result<usize, NoMemory>
+    ensures { is_live 0 0 form.now ≡ true → IfOk result (IsPlace (IsText form.now) text.now) }
+{
+    match judge(alloc, form, text)? {
+        Some(place) => Ok(place),
+        None => Ok(text.len()),
+    }
+}

@@ -1,0 +1,84 @@
+ghost use Rattle.std.specs.Prelude.{◌≡◌, IfOk, length, option_map};
+ghost use Rattle.lk_expr_text.specs.Tokens.{is_space};
+ghost use Rattle.lk_expr_text.specs.TokenFronts.{behind_spaces, behind_tokens, first_kind, is_unread, kinds_in};
+
+use crate::kind::{kind_byte, token_kind};
+use crate::lexer::{first_token, is_number};
+use lk_grammar::{Literals, UnsignedNumbers};
+use lk_val::NoMemory;
+use std::alloc::Global;
+
+/// The kinds of the tokens in front of a text, as far as it is read, each as its byte.
+pub fn kinds_in(alloc: Global, text: &[u8]) -> Result<Vec<u8>, NoMemory>
+    ensures { IfOk result (λ kinds. kinds.items ≡ kinds_in text.now) }
+{
+    let mut kinds = Vec::new(alloc);
+    let mut rest = text;
+    for _byte in text {
+        match first_kind(alloc, text.len(), rest)? {
+            Some((kind, behind)) => {
+                kinds.push(kind)?;
+                rest = behind;
+            }
+            None => return Ok(kinds),
+        }
+    }
+    Ok(kinds)
+}
+
+/// What is behind as many tokens in front of a text as there are kinds, and behind the spaces that follow them.
+pub fn behind_tokens<'a>(alloc: Global, kinds: &[u8], text: &'a [u8]) -> Result<&'a [u8], NoMemory>
+    ensures { IfOk result (λ rest. rest.now ≡ behind_tokens (length text.now) kinds.now text.now) }
+{
+    let mut rest = text;
+    for _kind in kinds {
+        match first_kind(alloc, text.len(), rest)? {
+            Some((_, behind)) => rest = behind,
+            None => return Ok(behind_spaces(rest)),
+        }
+    }
+    Ok(behind_spaces(rest))
+}
+
+// The kind of the token behind the first spaces, as its byte, and what is behind the token.
+fn first_kind<'a>(
+    alloc: Global,
+    whole: usize,
+    text: &'a [u8],
+) -> Result<Option<(u8, &'a [u8])>, NoMemory>
+    ensures { IfOk result (λ found. option_map (λ first. (first.0, first.1.now)) found ≡ first_kind whole text.now) }
+{
+    match first_token(alloc, whole, behind_spaces(text))? {
+        Some((token, behind)) => Ok(Some((kind_byte(token_kind(&token)), behind))),
+        None => Ok(None),
+    }
+}
+
+// The text behind its first spaces.
+fn behind_spaces(text: &[u8]) -> &[u8]
+    ensures { result.now ≡ behind_spaces text.now }
+{
+    let mut rest = text;
+    while let Some((byte, behind)) = rest.split_first() {
+        if !is_space(*byte) {
+            return rest;
+        }
+        rest = behind;
+    }
+    rest
+}
+
+fn is_space(byte: u8) -> bool
+    ensures { result ≡ is_space byte }
+{
+    byte == b' ' || byte == b'\t' || byte == b'\n' || byte == b'\r'
+}
+
+/// Whether a number comes first that no table may hold: it is out of range, or has a digit other than 0 past the
+/// fourth place.
+pub fn is_unread(text: &[u8]) -> bool
+    ensures { result ≡ is_unread text.now }
+{
+    let (number, _) = text.split_at(UnsignedNumbers.length(text));
+    !number.is_empty() && !is_number(number)
+}
