@@ -1,2 +1,6 @@
 pub mod Dates
 pub mod Kinds
+pub mod KindForms
+pub mod KindGrammar
+pub mod SyntaxPlaces
+pub mod ExprTexts

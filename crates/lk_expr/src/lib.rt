@@ -1,15 +1,22 @@
-//! Expressions: their values on joined rows, and the kinds that they may have.
+//! Expressions: read from texts with the place of a fault, the kinds that they may have, and their values on joined
+//! rows.
 #![tactic(auto)]
 
 mod arithmetic;
 mod comparison;
 mod dated;
 mod evaluation;
+mod expr_forms;
+mod form_parts;
 mod framed;
+mod judging;
 mod kind_set;
 mod kinds;
 mod laws;
 mod like;
+mod measure_forms;
+mod places;
+mod reading;
 mod texts;
 mod truth;
 
@@ -17,6 +24,11 @@ pub use dated::{are_literals_dated, is_row_dated};
 pub use evaluation::eval;
 pub use kinds::{Clash, Leaves, kind_of};
 pub use laws::values_have_their_kinds;
+pub use reading::{ExprFault, read_expr, read_measure};
 
+#[cfg(test)]
+mod judging_tests;
+#[cfg(test)]
+mod reading_tests;
 #[cfg(test)]
 mod tests;
