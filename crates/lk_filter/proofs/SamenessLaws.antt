@@ -1,6 +1,6 @@
 -- Two tests are the same only where they are equal, so the same filters have the same sets of tests.
 use Rattle.std.proofs.Common.{◌≡◌, Bool, true, false, ◌&&◌, ◌||◌, List, [], ◌∷◌, refl, sym, ap, ◌∙◌, eq-eqb}
-use Rattle.std.specs.Prelude.{not, Option, Some, None}
+use Rattle.std.specs.Prelude.{ℕ, ◌==◌, not, Option, Some, None}
 use Rattle.std.specs.List.{list_any}
 use Rattle.std.specs.Cmp.Lexicographic.{pointwise}
 use Rattle.std.specs.Ordering.{int_eq}
@@ -10,16 +10,17 @@ use Rattle.std.proofs.lemmas.Bool.Decides.{Decides-int_eq}
 use Rattle.lk_val.specs.Fractions.{Fraction}
 use Rattle.lk_val.specs.declared.num.Num.{Num}
 use Rattle.lk_val.specs.declared.value.Value.{Value}
-use Rattle.lk_types.specs.Filters.{is_same_piece, is_same_num, is_same_comparison, is_same_bound, is_same_edge, is_same_truth, is_same_end, is_same_days, is_same_test, are_among, is_same_filter, passes, passes_by, passes_frac}
+use Rattle.lk_types.specs.Filters.{is_same_piece, is_same_num, is_same_comparison, is_same_bound, is_same_edge, is_same_truth, is_same_end, is_same_days, is_same_period, is_same_count, is_same_test, are_among, is_same_filter, passes, passes_by, passes_frac}
 use Rattle.lk_types.specs.declared.expr.Comparison.{Comparison}
 use Rattle.lk_types.specs.declared.expr.Comparison.TheVariants as comparison
 use Rattle.lk_types.specs.declared.expr.Piece.TheVariants as piece
 use Rattle.lk_types.specs.declared.filter.Filter.{Filter}
 use Rattle.lk_types.specs.declared.filter.Edge.TheVariants.{Lowest, At, Highest}
+use Rattle.lk_types.specs.declared.filter.Period.{Period}
+use Rattle.lk_types.specs.declared.filter.Period.TheVariants.{Day, Week, Month, Quarter, Year}
 use Rattle.lk_types.specs.declared.filter.Test.{Test}
 use Rattle.lk_types.specs.declared.filter.Test.TheVariants as test
 use Rattle.lk_filter.proofs.Steps.{both}
-use Rattle.lk_filter.specs.Placing.{is_relative, is_placed}
 
 -- ---- what is the same is equal
 
@@ -80,6 +81,18 @@ pointwise-exact {same = same} exact (x ∷ xs) (y ∷ ys) e =
     λ i. exact x y parts.0 i ∷ pointwise-exact exact xs ys parts.1 i
 pointwise-exact exact xs ys e = cc
 
+period-exact : IsExact is_same_period
+period-exact Day Day e = refl
+period-exact Week Week e = refl
+period-exact Month Month e = refl
+period-exact Quarter Quarter e = refl
+period-exact Year Year e = refl
+period-exact p q e = cc
+
+-- counts of periods that are the same are equal
+count-exact : (m : ℕ) (p : Period) (n : ℕ) (q : Period) → is_same_count m p n q ≡ true → (m ≡ n) × (p ≡ q)
+count-exact m p n q e = let parts = both (m == n) (is_same_period p q) e in (eqb-true m n parts.0, period-exact p q parts.1)
+
 pub test-exact : IsExact is_same_test
 test-exact test.Null test.Null e = refl
 test-exact test.Empty test.Empty e = refl
@@ -103,10 +116,16 @@ test-exact (test.After a) (test.After b) e = ap test.After (days-exact a b e)
 test-exact (test.FromTo a b) (test.FromTo c d) e =
     let parts = both (is_same_days a c) (is_same_days b d) e in
     λ i. test.FromTo (days-exact a c parts.0 i) (days-exact b d parts.1 i)
+test-exact test.Today test.Today e = refl
+test-exact test.Yesterday test.Yesterday e = refl
+test-exact (test.This p) (test.This q) e = ap test.This (period-exact p q e)
+test-exact (test.Last p) (test.Last q) e = ap test.Last (period-exact p q e)
+test-exact (test.Recent m p) (test.Recent n q) e = let parts = count-exact m p n q e in λ i. test.Recent (parts.0 i) (parts.1 i)
+test-exact (test.Ago m p) (test.Ago n q) e = let parts = count-exact m p n q e in λ i. test.Ago (parts.0 i) (parts.1 i)
 test-exact (test.Truth a) (test.Truth b) e = ap test.Truth (truth-exact a b e)
 test-exact s t e = cc
 
--- ---- a test that is no relative date is the same as itself
+-- ---- each test is the same as itself
 
 abbrev IsReflexive : {A : Type 0} → (A → A → Bool) → Type 0
 IsReflexive {A} same = (x : A) → same x x ≡ true
@@ -153,20 +172,35 @@ pointwise-itself : {A : Type 0} (same : A → A → Bool) → IsReflexive same �
 pointwise-itself same itself [] = refl
 pointwise-itself same itself (x ∷ xs) = both_true (itself x) (pointwise-itself same itself xs)
 
-pub test-itself : (t : Test) → is_relative t ≡ false → is_same_test t t ≡ true
-test-itself test.Null e = refl
-test-itself test.Empty e = refl
-test-itself (test.Like p) e = pointwise-itself is_same_piece piece-itself p
-test-itself (test.Is n) e = num-itself n
-test-itself (test.Compare cs) e = pointwise-itself (λ (c d : Comparison × Num). is_same_comparison c.0 d.0 && is_same_num c.1 d.1) (λ c. both_true (comparison-itself c.0) (num-itself c.1)) cs
-test-itself (test.To a b) e = both_true (bound-itself a) (bound-itself b)
-test-itself (test.Range a b) e = both_true (end-itself a) (end-itself b)
-test-itself (test.In a) e = days-itself a
-test-itself (test.Before a) e = days-itself a
-test-itself (test.After a) e = days-itself a
-test-itself (test.FromTo a b) e = both_true (days-itself a) (days-itself b)
-test-itself (test.Truth a) e = truth-itself a
-test-itself t e = cc
+period-itself : IsReflexive is_same_period
+period-itself Day = refl
+period-itself Week = refl
+period-itself Month = refl
+period-itself Quarter = refl
+period-itself Year = refl
+
+count-itself : (n : ℕ) (p : Period) → is_same_count n p n p ≡ true
+count-itself n p = both_true (eq-eqb n n refl) (period-itself p)
+
+pub test-itself : IsReflexive is_same_test
+test-itself test.Null = refl
+test-itself test.Empty = refl
+test-itself (test.Like p) = pointwise-itself is_same_piece piece-itself p
+test-itself (test.Is n) = num-itself n
+test-itself (test.Compare cs) = pointwise-itself (λ (c d : Comparison × Num). is_same_comparison c.0 d.0 && is_same_num c.1 d.1) (λ c. both_true (comparison-itself c.0) (num-itself c.1)) cs
+test-itself (test.To a b) = both_true (bound-itself a) (bound-itself b)
+test-itself (test.Range a b) = both_true (end-itself a) (end-itself b)
+test-itself (test.In a) = days-itself a
+test-itself (test.Before a) = days-itself a
+test-itself (test.After a) = days-itself a
+test-itself (test.FromTo a b) = both_true (days-itself a) (days-itself b)
+test-itself test.Today = refl
+test-itself test.Yesterday = refl
+test-itself (test.This p) = period-itself p
+test-itself (test.Last p) = period-itself p
+test-itself (test.Recent n p) = count-itself n p
+test-itself (test.Ago n p) = count-itself n p
+test-itself (test.Truth a) = truth-itself a
 
 -- ---- sets of tests
 
@@ -215,15 +249,9 @@ among-more (s ∷ ss) ts t e =
     let parts = both (list_any (is_same_test s) ts) (are_among ss ts) e in
     both_true (or_right (is_same_test s t) (list_any (is_same_test s) ts) parts.0) (among-more ss ts t parts.1)
 
-among-itself : (ts : List Test) → not (list_any is_relative ts) ≡ true → are_among ts ts ≡ true
-among-itself [] e = refl
-among-itself (t ∷ ts) e = by (is_relative t) refl (among-itself ts)
-  where
-    by : (b : Bool) → is_relative t ≡ b → (not (list_any is_relative ts) ≡ true → are_among ts ts ≡ true) → are_among (t ∷ ts) (t ∷ ts) ≡ true
-    by true r further = absurd (false≢true (ap (λ b. not (b || list_any is_relative ts)) (sym r) ∙ e))
-    by false r further = both_true
-        (ap (λ b. b || list_any (is_same_test t) ts) (test-itself t r))
-        (among-more ts ts t (further (ap (λ b. not (b || list_any is_relative ts)) (sym r) ∙ e)))
+among-itself : (ts : List Test) → are_among ts ts ≡ true
+among-itself [] = refl
+among-itself (t ∷ ts) = both_true (ap (λ b. b || list_any (is_same_test t) ts) (test-itself t)) (among-more ts ts t (among-itself ts))
 
 -- ---- filters
 
@@ -244,15 +272,13 @@ parts_of f g e =
 joined : (f g : Filter) → HaveSameTests f g → is_same_filter f g ≡ true
 joined f g h = both_true (both_true (both_true h.include_to h.include_back) h.exclude_to) h.exclude_back
 
-pub filter-itself : (f : Filter) → is_placed f ≡ true → is_same_filter f f ≡ true
-filter-itself f e =
-    let parts = both (not (list_any is_relative f.include)) (not (list_any is_relative f.exclude)) e in
-    joined f f (record {
-      include_to = among-itself f.include parts.0;
-      include_back = among-itself f.include parts.0;
-      exclude_to = among-itself f.exclude parts.1;
-      exclude_back = among-itself f.exclude parts.1;
-    })
+pub filter-itself : (f : Filter) → is_same_filter f f ≡ true
+filter-itself f = joined f f (record {
+  include_to = among-itself f.include;
+  include_back = among-itself f.include;
+  exclude_to = among-itself f.exclude;
+  exclude_back = among-itself f.exclude;
+})
 
 turned : (f g : Filter) → is_same_filter f g ≡ true → is_same_filter g f ≡ true
 turned f g e =

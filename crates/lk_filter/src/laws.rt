@@ -9,7 +9,7 @@ ghost use Rattle.lk_types.specs.declared.filter.Filter.{Filter};
 ghost use Rattle.lk_types.specs.declared.filter.Period.{Period};
 ghost use Rattle.lk_types.specs.declared.filter.Test.{Test};
 ghost use Rattle.lk_types.specs.declared.filter.Test.TheVariants as test;
-ghost use Rattle.lk_filter.specs.Placing.{IsInItsUnit, IsWithinYears, is_relative, is_placed};
+ghost use Rattle.lk_filter.specs.Placing.{IsInItsUnit, IsWithinYears, is_placed};
 
 /// A placed filter has no relative date, and a filter without relative dates keeps its tests. A law: it computes
 /// nothing.
@@ -44,15 +44,15 @@ pub fn relative_dates_mean_units()
         → day_meets (from_1970 day) (placed_test today (test.Ago n p)) ≡ (unit_of p day + n == unit_of p today) }
 {}
 
-/// Sameness is an equivalence of placed filters, and two of their tests are the same exactly where they are equal.
-/// A law: it computes nothing.
+/// Sameness is an equivalence of filters, and two tests are the same exactly where they are equal. A law: it computes
+/// nothing.
 pub fn sameness_is_an_equivalence()
-    ensures reflexive { (f : Filter) → is_placed f ≡ true → is_same_filter f f ≡ true }
+    ensures reflexive { (f : Filter) → is_same_filter f f ≡ true }
     ensures symmetric { (f g : Filter) → is_same_filter f g ≡ is_same_filter g f }
     ensures transitive { (f g h : Filter) → is_same_filter f g ≡ true → is_same_filter g h ≡ true
         → is_same_filter f h ≡ true }
     ensures equal { (s t : Test) → is_same_test s t ≡ true → s ≡ t }
-    ensures itself { (t : Test) → is_relative t ≡ false → is_same_test t t ≡ true }
+    ensures itself { (t : Test) → is_same_test t t ≡ true }
 {}
 
 /// The same filters pass the same values, and the same fractions. A law: it computes nothing.

@@ -22,7 +22,7 @@ pub enum FilterKind {
 #[derive(Clone, Copy, Debug, PartialEq, Eq)]
 pub enum FilterFault {
     /// The text is no filter of its kind. The place is the number of bytes before the fault. (F1)
-    Syntax(usize),
+    Syntax(u32),
     /// There is no memory for the filter.
     NoMemory,
 }
@@ -39,7 +39,7 @@ impl From<NoMemory> for FilterFault {
 }
 
 /// The most bytes of a filter's text.
-pub const LONGEST_FILTER: usize = 4096;
+pub const LONGEST_FILTER: u32 = 4096;
 
 /// Reads a filter's text. Relative dates stay as they are written. A text that is no filter of the kind is refused with
 /// the length of its longest prefix that begins one; a number that is out of range or too fine, with the place of its
@@ -53,12 +53,12 @@ pub fn read_filter(alloc: Global, kind: FilterKind, text: &[u8]) -> Result<Filte
     ensures refused { IfSyntax result (λ place. (f : Filter) → IsFilterText kind f text.now → ⊥) }
     ensures place { IfSyntax result (IsFaultPlace kind text.now) }
 {
-    if text.len() > LONGEST_FILTER {
+    if text.len() > LONGEST_FILTER as usize {
         return Err(FilterFault::Syntax(LONGEST_FILTER));
     }
     match filter_of(alloc, kind, text)? {
         Some(filter) => Ok(filter),
-        None => Err(FilterFault::Syntax(place_of(alloc, kind, text)?)),
+        None => Err(FilterFault::Syntax(short_place(place_of(alloc, kind, text)?)?)),
     }
 }
 
@@ -72,6 +72,13 @@ fn filter_of(alloc: Global, kind: FilterKind, text: &[u8]) -> Result<Option<Filt
         FilterKind::Date => read_dates(alloc, text),
         FilterKind::Truth => read_truths(alloc, text),
     }
+}
+
+// A place in 32 bits.
+fn short_place(place: usize) -> Result<u32, NoMemory>
+    ensures { IfOk result (λ short. short ≡ place) }
+{
+    u32::try_from(place).map_err(|_| NoMemory)
 }
 
 /// The place of a text that is no filter of the kind.

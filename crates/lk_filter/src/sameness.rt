@@ -1,13 +1,13 @@
 ghost use Rattle.std.specs.Prelude.{◌≡◌, ◌&&◌};
 ghost use Rattle.std.specs.List.{list_any};
 ghost use Rattle.std.specs.Cmp.Lexicographic.{pointwise};
-ghost use Rattle.lk_types.specs.Filters.{is_same_filter, are_among, is_same_test, is_same_piece, is_same_days, is_same_end, is_same_bound, is_same_comparison, is_same_num};
+ghost use Rattle.lk_types.specs.Filters.{is_same_filter, are_among, is_same_test, is_same_piece, is_same_days, is_same_period, is_same_end, is_same_bound, is_same_comparison, is_same_num};
 
-use lk_types::{Comparison, Days, End, Filter, Piece, Test};
+use lk_types::{Comparison, Days, End, Filter, Period, Piece, Test};
 use lk_val::Num;
 
-/// Whether two placed filters have equal includes and equal excludes, each as a set: order and repetitions don't
-/// count, and tests are equal where they are of one form with equal parts. It takes no memory. (lookd)
+/// Whether two filters have equal includes and equal excludes, each as a set: order and repetitions don't count, and
+/// tests are equal where they are of one form with equal parts. It takes no memory. (lookd)
 pub fn same(a: &Filter, b: &Filter) -> bool
     ensures { result ≡ is_same_filter a.now b.now }
 {
@@ -46,6 +46,12 @@ fn is_same_test(a: &Test, b: &Test) -> bool
         (Test::After(a), Test::After(b)) => is_same_days(*a, *b),
         (Test::FromTo(a, b), Test::FromTo(c, d)) => is_same_days(*a, *c) && is_same_days(*b, *d),
         (Test::Truth(a), Test::Truth(b)) => a == b,
+        (Test::Today, Test::Today) => true,
+        (Test::Yesterday, Test::Yesterday) => true,
+        (Test::This(p), Test::This(q)) => is_same_period(*p, *q),
+        (Test::Last(p), Test::Last(q)) => is_same_period(*p, *q),
+        (Test::Recent(m, p), Test::Recent(n, q)) => m == n && is_same_period(*p, *q),
+        (Test::Ago(m, p), Test::Ago(n, q)) => m == n && is_same_period(*p, *q),
         _ => false,
     }
 }
@@ -82,6 +88,12 @@ fn is_same_end(a: End, b: End) -> bool
 
 fn is_same_days(a: Days, b: Days) -> bool
     ensures { result ≡ is_same_days a b }
+{
+    a == b
+}
+
+fn is_same_period(a: Period, b: Period) -> bool
+    ensures { result ≡ is_same_period a b }
 {
     a == b
 }

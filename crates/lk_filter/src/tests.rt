@@ -1,5 +1,7 @@
+mod forms;
 mod model;
 mod passing;
+mod places;
 mod reading;
 
 use super::*;
@@ -37,59 +39,35 @@ fn include_all(alloc: Global, tests: Vec<Test>) -> Result<Filter, NoMemory> {
 fn relative_dates_become_their_days(rt: HostRuntime) -> Result<(), Fail> {
     let alloc = rt.alloc();
     let cases = [
-        (Test::Today, days(19_784, 19_785), "today"),
-        (Test::Yesterday, days(19_783, 19_784), "yesterday"),
-        (Test::This(Period::Week), days(19_779, 19_786), "this week"),
-        (
-            Test::This(Period::Month),
-            days(19_783, 19_814),
-            "this month",
-        ),
-        (
-            Test::This(Period::Quarter),
-            days(19_723, 19_814),
-            "this quarter",
-        ),
-        (Test::This(Period::Year), days(19_723, 20_089), "this year"),
-        (Test::Last(Period::Week), days(19_772, 19_779), "last week"),
-        (
-            Test::Last(Period::Month),
-            days(19_754, 19_783),
-            "last month",
-        ),
-        (
-            Test::Last(Period::Quarter),
-            days(19_631, 19_723),
-            "last quarter",
-        ),
-        (Test::Last(Period::Year), days(19_358, 19_723), "last year"),
-        (Test::Recent(3, Period::Day), days(19_782, 19_785), "3 days"),
-        (
-            Test::Recent(2, Period::Month),
-            days(19_754, 19_814),
-            "2 months",
-        ),
-        (
-            Test::Ago(1, Period::Month),
-            days(19_754, 19_783),
-            "1 month ago",
-        ),
-        (
-            Test::Ago(3, Period::Day),
-            days(19_781, 19_782),
-            "3 days ago",
-        ),
-        (
-            Test::Recent(10_000, Period::Year),
-            days(-719_162, 20_089),
-            "10000 years",
-        ),
+        ("today", days(19_784, 19_785)),
+        ("yesterday", days(19_783, 19_784)),
+        ("this week", days(19_779, 19_786)),
+        ("this month", days(19_783, 19_814)),
+        ("this quarter", days(19_723, 19_814)),
+        ("this year", days(19_723, 20_089)),
+        ("last week", days(19_772, 19_779)),
+        ("last month", days(19_754, 19_783)),
+        ("last quarter", days(19_631, 19_723)),
+        ("last year", days(19_358, 19_723)),
+        ("1 day", days(19_784, 19_785)),
+        ("3 days", days(19_782, 19_785)),
+        ("2 weeks", days(19_772, 19_786)),
+        ("2 months", days(19_754, 19_814)),
+        ("2 quarters", days(19_631, 19_814)),
+        ("10000 years", days(-719_162, 20_089)),
+        ("3 days ago", days(19_781, 19_782)),
+        ("1 week ago", days(19_772, 19_779)),
+        ("1 month ago", days(19_754, 19_783)),
+        ("1 quarter ago", days(19_631, 19_723)),
+        ("1 year ago", days(19_358, 19_723)),
     ];
-    for (test, span, message) in cases {
-        let relative = include(alloc, test).or(Err(FULL))?;
+    for (text, span) in cases {
+        let relative = read_filter(alloc, FilterKind::Date, text.as_bytes()).or(Err("refused"))?;
+        assert!(rt; relative.relative, "{text}");
         let placed = place(alloc, &relative, SATURDAY).or(Err(FULL))?;
+        assert!(rt; !placed.relative, "{text}");
         let wanted = include(alloc, Test::In(span)).or(Err(FULL))?;
-        assert!(rt; same(&placed, &wanted), "{message}");
+        assert!(rt; same(&placed, &wanted), "{text}");
     }
     Ok(())
 }
@@ -122,9 +100,12 @@ fn spans_end_with_the_year_9999(rt: HostRuntime) -> Result<(), Fail> {
 #[test]
 fn written_tests_stay_where_they_are(rt: HostRuntime) -> Result<(), Fail> {
     let alloc = rt.alloc();
+    let text = b"2024/2 to 2024-02-15";
+    let written = read_filter(alloc, FilterKind::Date, text).or(Err("refused"))?;
+    assert!(rt; !written.relative);
     let february = days(19_754, 19_783);
-    let day = days(19_768, 19_769);
-    let written = include(alloc, Test::FromTo(february, day)).or(Err(FULL))?;
+    let wanted = include(alloc, Test::FromTo(february, days(19_768, 19_769))).or(Err(FULL))?;
+    assert!(rt; same(&written, &wanted));
     let placed = place(alloc, &written, SATURDAY).or(Err(FULL))?;
     assert!(rt; same(&placed, &written));
     Ok(())

@@ -202,7 +202,20 @@ is_same_end a b = is_same_edge a.edge b.edge && is_same_truth a.closed b.closed
 abbrev pub is_same_days : Days → Days → Bool
 is_same_days a b = int_eq a.from b.from && int_eq a.up_to b.up_to
 
--- tests of placed filters that are of one form with equal parts
+-- two periods are the same
+abbrev pub is_same_period : Period → Period → Bool
+is_same_period Day Day = true
+is_same_period Week Week = true
+is_same_period Month Month = true
+is_same_period Quarter Quarter = true
+is_same_period Year Year = true
+is_same_period p q = false
+
+-- two counts of periods are the same
+abbrev pub is_same_count : ℕ → Period → ℕ → Period → Bool
+is_same_count m p n q = (m == n) && is_same_period p q
+
+-- tests that are of one form with equal parts
 abbrev pub is_same_test : Test → Test → Bool
 is_same_test test.Null test.Null = true
 is_same_test test.Empty test.Empty = true
@@ -215,6 +228,12 @@ is_same_test (test.In a) (test.In b) = is_same_days a b
 is_same_test (test.Before a) (test.Before b) = is_same_days a b
 is_same_test (test.After a) (test.After b) = is_same_days a b
 is_same_test (test.FromTo a b) (test.FromTo c d) = is_same_days a c && is_same_days b d
+is_same_test test.Today test.Today = true
+is_same_test test.Yesterday test.Yesterday = true
+is_same_test (test.This p) (test.This q) = is_same_period p q
+is_same_test (test.Last p) (test.Last q) = is_same_period p q
+is_same_test (test.Recent m p) (test.Recent n q) = is_same_count m p n q
+is_same_test (test.Ago m p) (test.Ago n q) = is_same_count m p n q
 is_same_test (test.Truth a) (test.Truth b) = is_same_truth a b
 is_same_test s t = false
 

@@ -21,7 +21,12 @@ fn value(alloc: Global, kind: FilterKind, cell: &str) -> Result<Value, Fail> {
 }
 
 // Whether the cell passes the filter, with relative dates at noon of 2024-03-02.
-fn does_pass(alloc: Global, kind: FilterKind, text: &str, cell: &str) -> Result<bool, Fail> {
+pub(super) fn does_pass(
+    alloc: Global,
+    kind: FilterKind,
+    text: &str,
+    cell: &str,
+) -> Result<bool, Fail> {
     let filter = read_filter(alloc, kind, text.as_bytes()).or(Err("refused"))?;
     let placed = place(alloc, &filter, SATURDAY).or(Err(FULL))?;
     Ok(passes(&placed, &value(alloc, kind, cell)?))
