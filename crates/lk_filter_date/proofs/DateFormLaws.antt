@@ -24,7 +24,9 @@ use Rattle.lk_filter_date.specs.declared.items.DateItem.{DateItem}
 use Rattle.lk_filter_date.specs.declared.items.DateItem.TheVariants as item
 use Rattle.lk_grammar.proofs.ListedLaws.{alone, only, listed_there, listed_back}
 use Rattle.lk_grammar.proofs.ReadingLaws.{none_some, map_before, then_before}
-use Rattle.lk_filter_date.proofs.DateTextLaws.{date_read, date_spelled, count_read, count_spelled, date_is_literal, count_is_literal}
+use Rattle.lk_filter_date.proofs.DateTextLaws.{date_read, date_spelled}
+use Rattle.lk_filter_date.proofs.DateCountLaws.{count_read, count_spelled}
+use Rattle.lk_filter_date.proofs.DateLiteralTextLaws.{date_is_literal, count_is_literal}
 
 -- ---- forms that are built one by one
 

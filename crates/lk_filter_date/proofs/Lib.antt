@@ -1,5 +1,10 @@
 pub mod DateLiteralLaws
 pub mod DateReadingLaws
+pub mod DateNumeralLaws
+pub mod DateMonthLaws
+pub mod DateYearLaws
 pub mod DateTextLaws
+pub mod DateCountLaws
+pub mod DateLiteralTextLaws
 pub mod DateTokenLaws
 pub mod DateFormLaws
