@@ -49,7 +49,7 @@ completes utf8 (b ∷ text) = goes_on (utf8_after utf8 b) (λ next. completes ne
 abbrev pub is_text : List ℕ → Bool
 is_text text = completes Whole text
 
--- the least bytes that complete a text that owes this
+-- bytes that complete a text that owes this
 abbrev pub ending : Utf8 → List ℕ
 ending Whole = []
 ending One = 128 ∷ []

@@ -1,6 +1,7 @@
-ghost use Rattle.std.specs.Prelude.{◌≡◌, ℕ, List, true};
+ghost use Rattle.std.specs.Prelude.{◌≡◌, ◌≤◌, ℕ, List, true};
+ghost use Rattle.std.specs.List.{AllByRecursion};
 ghost use Rattle.std.specs.Str.{is_utf8};
-ghost use Rattle.lk_utf8.specs.Utf8.{utf8_after, is_text, is_whole, begun, owed};
+ghost use Rattle.lk_utf8.specs.Utf8.{utf8_after, completes, ending, is_text, is_whole, begun, owed};
 
 /// What a text in UTF-8 owes behind the bytes so far: nothing, or the last bytes of a character.
 /// (RFC 3629, section 4)
@@ -81,4 +82,11 @@ pub fn is_whole(utf8: Utf8) -> bool
 pub fn whole_characters_are_utf8()
     ensures whole { (text : List ℕ) → is_text text ≡ true → is_utf8 text ≡ true }
     ensures every { (text : List ℕ) → is_utf8 text ≡ true → is_text text ≡ true }
+{}
+
+/// Whatever a text owes, some bytes complete it, each 80 or more: so a text goes on behind each byte that `utf8_after`
+/// lets stand. (RFC 3629, section 4)
+pub fn each_state_has_an_ending()
+    ensures completes { (utf8 : Utf8) → completes utf8 (ending utf8) ≡ true }
+    ensures high { (utf8 : Utf8) → AllByRecursion (λ b. 128 ≤ b) (ending utf8) }
 {}
