@@ -1,63 +1,17 @@
--- Kinds: no two have one byte, what a token of a kind is, and that each kind has a token.
-use Rattle.std.proofs.Common.{◌≡◌, ℕ, Bool, true, false, nat_eq, List, [], ◌∷◌, Option, Some, None, if◌then◌else◌, codes, refl, sym, ap, subst, ◌∙◌}
+-- What a token of a kind is, and that each kind has a token.
+use Rattle.std.proofs.Common.{◌≡◌, ℕ, Bool, true, false, nat_eq, List, [], ◌∷◌, codes, refl, subst, ◌∙◌}
 use Rattle.std.specs.List.{list_any}
 use Rattle.std.proofs.lemmas.Bool.{false≢true}
 use Rattle.std.proofs.lemmas.Bool.Decides.{Decides-eqb}
-use Rattle.std.proofs.lemmas.Option.{same_Some}
 use Rattle.lk_types.specs.declared.expr.Comparison.{Comparison}
 use Rattle.lk_types.specs.declared.expr.Comparison.TheVariants as comparison
-use Rattle.lk_expr_text.specs.declared.token.Keyword.TheVariants as keyword
-use Rattle.lk_expr_text.specs.declared.token.Sign.TheVariants as sign
 use Rattle.lk_expr_text.specs.declared.token.Token.{Token}
 use Rattle.lk_expr_text.specs.declared.token.Token.TheVariants as token
 use Rattle.lk_expr_text.specs.declared.kind.TokenKind.{TokenKind}
 use Rattle.lk_expr_text.specs.declared.kind.TokenKind.TheVariants as kind
 use Rattle.lk_expr_text.specs.Calls.{function_of, is_of_measures}
-use Rattle.lk_expr_text.specs.TokenKinds.{name_kind, token_kind, kind_byte, token_byte, token_kinds}
-
--- ---- a kind is known by its byte
-
--- the first kind of a list with the byte
-abbrev kind_among : List TokenKind → ℕ → Option TokenKind
-kind_among [] b = None
-kind_among (k ∷ ks) b = if nat_eq (kind_byte k) b then Some k else kind_among ks b
-
-known : (k : TokenKind) → kind_among token_kinds (kind_byte k) ≡ Some k
-known (kind.Word keyword.And) = refl
-known (kind.Word keyword.Or) = refl
-known (kind.Word keyword.Not) = refl
-known (kind.Word keyword.Is) = refl
-known (kind.Word keyword.Null) = refl
-known (kind.Word keyword.In) = refl
-known (kind.Word keyword.Between) = refl
-known (kind.Word keyword.Like) = refl
-known (kind.Word keyword.True) = refl
-known (kind.Word keyword.False) = refl
-known (kind.Word keyword.Case) = refl
-known (kind.Word keyword.When) = refl
-known (kind.Word keyword.Then) = refl
-known (kind.Word keyword.Else) = refl
-known (kind.Word keyword.End) = refl
-known (kind.Sign sign.Plus) = refl
-known (kind.Sign sign.Minus) = refl
-known (kind.Sign sign.Concat) = refl
-known (kind.Sign sign.Times) = refl
-known (kind.Sign sign.Over) = refl
-known (kind.Sign sign.Open) = refl
-known (kind.Sign sign.Close) = refl
-known (kind.Sign sign.Comma) = refl
-known kind.MeasureFunction = refl
-known kind.Name = refl
-known kind.Compare = refl
-known kind.Number = refl
-known kind.Text = refl
-known kind.Column = refl
-known kind.Field = refl
-known kind.FieldOf = refl
-
--- kinds with one byte are one kind
-pub same_kind : (j k : TokenKind) → kind_byte j ≡ kind_byte k → j ≡ k
-same_kind j k e = same_Some j k (sym (known j) ∙ ap (kind_among token_kinds) e ∙ known k)
+use Rattle.lk_expr_text.specs.TokenKinds.{name_kind, token_kind, kind_byte, token_byte}
+use Rattle.lk_expr_text.proofs.KindsKnown.{same_kind}
 
 -- ---- what a token of a kind is
 

@@ -12,3 +12,4 @@ pub mod KindJudged
 pub mod ReadFronts
 pub mod SyntaxPlaceLaws
 pub mod GrammarLaws
+mod PatternLaws

@@ -1,24 +1,22 @@
 -- The tokens in front of a text: how far they are read, before which rests they stand, and what a text that goes on so spells.
-use Rattle.std.proofs.Common.{◌≡◌, ℕ, suc, ◌+◌, ◌≤◌, Bool, true, false, not, ◌&&◌, nat_eq, List, [], ◌∷◌, ◌++◌, length, take, map, Some, None, option_map, refl, sym, ap, subst, ◌∙◌, append_assoc, length-append, arith}
+use Rattle.std.proofs.Common.{◌≡◌, ℕ, Bool, true, false, not, ◌&&◌, nat_eq, List, [], ◌∷◌, ◌++◌, length, take, map, Some, None, refl, sym, ap, subst, ◌∙◌, append_assoc, arith}
 use Rattle.std.specs.List.{list_all}
 use Rattle.std.specs.Char.{is_ascii_digit}
 use Rattle.std.proofs.lemmas.Bool.{false≢true}
 use Rattle.std.proofs.lemmas.Bool.Decides.{nat_tests}
 use Rattle.std.proofs.lemmas.Option.{some_pair_parts}
-use Rattle.lk_grammar.specs.Numbers.{unsigned_length, is_digit}
+use Rattle.lk_grammar.specs.Numbers.{unsigned_length}
 use Rattle.lk_expr_text.specs.declared.token.Token.{Token}
-use Rattle.lk_expr_text.specs.Tokens.{is_space, is_number, IsTokenAt, IsSpelled}
-use Rattle.lk_expr_text.specs.Lexing.{first_token, first_number}
+use Rattle.lk_expr_text.specs.Tokens.{is_space, is_number, IsTokenAt, IsLed, IsSpelled}
+use Rattle.lk_expr_text.specs.Lexing.{first_token}
 use Rattle.lk_expr_text.specs.TokenKinds.{token_kind, token_byte, kind_byte}
-use Rattle.lk_expr_text.specs.TokenFronts.{is_unread, IsSpelledThen, behind_spaces, then_bytes, kinds_from, behind_tokens}
+use Rattle.lk_expr_text.specs.TokenFronts.{is_unread, IsSpelledThen, IsStuck, behind_spaces, kinds_in}
 use Rattle.lk_expr_text.proofs.LexSteps.{both, together, no_some}
-use Rattle.lk_expr_text.proofs.LexLaws.{token_found, token_sound}
-use Rattle.lk_expr_text.proofs.KindLaws.{EndsSo, same_head, at_end, at_space, IsKindAt, token_before, kind_at_end, IsSolid, token_solid, solid_stays, kind_text}
+use Rattle.lk_expr_text.proofs.LexLaws.{by_digit, no_digits, token_found}
+use Rattle.lk_expr_text.proofs.KindLaws.{EndsSo, same_head, at_end, at_space, IsKindAt, token_before, kind_at_end, IsSolid, solid_stays, kind_text}
+use Rattle.lk_expr_text.proofs.FrontTokens.{Spaces, skip_gap, unspaced_stays, token_starts, stuck_none, led_first, some_tokens, kinds_spelled}
 
 -- ---- spaces
-
-abbrev pub Spaces : List ℕ → Type 0
-Spaces gap = list_all is_space gap ≡ true
 
 all_joined : (x y : List ℕ) → Spaces x → Spaces y → Spaces (x ++ y)
 all_joined [] y p q = q
@@ -33,9 +31,6 @@ clash text b more s is e =
     let joined : s.head ∷ s.tail ≡ b ∷ more = sym s.is ∙ e in
     let same : s.head ≡ b = cc in
     false≢true (sym s.no_space ∙ ap is_space same ∙ is)
-
-pub solid_more : (text rest : List ℕ) → IsSolid text → IsSolid (text ++ rest)
-solid_more text rest s = record { head = s.head; tail = s.tail ++ rest; is = ap (λ z. z ++ rest) s.is; no_space = s.no_space }
 
 pub solid_not_spaces : (gap text : List ℕ) → IsSolid text → Spaces (gap ++ text) → ⊥
 solid_not_spaces gap text s h =
@@ -62,25 +57,6 @@ gap_left (b ∷ p) m [] y h q s e = absurd (clash y b (p ++ m) s (both (is_space
 gap_left (b ∷ p) m (c ∷ g) y h q s e =
     let more : p ++ m ≡ g ++ y = cc in
     gap_left p m g y (both (is_space b) (list_all is_space p) h).1 (both (is_space c) (list_all is_space g) q).1 s more
-
-pub skip_gap : (gap rest : List ℕ) → Spaces gap → behind_spaces (gap ++ rest) ≡ behind_spaces rest
-skip_gap [] rest h = refl
-skip_gap (b ∷ gap) rest h = let p = both (is_space b) (list_all is_space gap) h in rw p.0 (skip_gap gap rest p.1)
-
--- what is behind the spaces, and the spaces
-abbrev Skipped : List ℕ → Type 0
-Skipped text = (gap : List ℕ) × (text ≡ gap ++ behind_spaces text) × Spaces gap
-
-skipped : (text : List ℕ) → Skipped text
-skipped [] = ([], refl, refl)
-skipped (b ∷ text) =
-    elim (is_space b) as (λ d. is_space b ≡ d → Skipped (b ∷ text)) [
-      | true ↦ λ d. let s = skipped text in (b ∷ s.0, rw d (ap (λ z. b ∷ z) s.1), together (is_space b) (list_all is_space s.0) d s.2)
-      | false ↦ λ d. ([], rw d refl, refl)
-    ] refl
-
-skips_once : (text : List ℕ) → behind_spaces (behind_spaces text) ≡ behind_spaces text
-skips_once text = let s = skipped text in sym (skip_gap s.0 (behind_spaces text) s.2) ∙ ap behind_spaces (sym s.1)
 
 -- ---- tokens before a rest
 
@@ -165,15 +141,32 @@ front_then whole Behind (t ∷ ts) p m h is = record {
   behind = front_then whole Behind ts h.back m h.more is;
 }
 
+-- and back
+pub record IsParted (whole : ℕ) (Behind : List ℕ → Type 0) (ts : List Token) (text : List ℕ) : Type 0 where
+  pub front : List ℕ
+  pub rest : List ℕ
+  pub joined : text ≡ front ++ rest
+  pub read : IsFront whole ts front rest
+  pub behind : Behind rest
+
+front_of : (whole : ℕ) (Behind : List ℕ → Type 0) (ts : List Token) (text : List ℕ) → IsSpelledThen whole Behind ts text → IsParted whole Behind ts text
+front_of whole Behind [] text h = record { front = h.gap; rest = h.rest; joined = h.joined; read = h.spaces; behind = h.behind }
+front_of whole Behind (t ∷ ts) text h =
+    let f = front_of whole Behind ts h.rest h.behind in
+    record {
+      front = h.gap ++ (h.front ++ f.front);
+      rest = f.rest;
+      joined = h.joined ∙ ap (λ z. h.gap ++ (h.front ++ z)) f.joined ∙ sym (stepped h.gap h.front f.front f.rest);
+      read = record { gap = h.gap; own = h.front; back = f.front; joined = refl; spaces = h.spaces; spelled = subst (IsTokenAt whole t h.front) f.joined h.spelled; more = f.read };
+      behind = f.behind;
+    }
+
 -- ---- a text has one reading
 
 -- two tokens in front of one text are one
 pub one_token : (whole : ℕ) (t z : Token) (own rest front behind : List ℕ) → IsTokenAt whole t own rest → IsTokenAt whole z front behind → own ++ rest ≡ front ++ behind → (t ≡ z) × (rest ≡ behind)
 one_token whole t z own rest front behind h s e =
     some_pair_parts t z rest behind (sym (token_found whole t own rest h) ∙ ap (first_token whole) e ∙ token_found whole z front behind s)
-
-token_starts : (whole : ℕ) (t : Token) (own rest : List ℕ) → IsTokenAt whole t own rest → IsSolid (own ++ rest)
-token_starts whole t own rest h = solid_more own rest (token_solid whole t own rest h)
 
 -- the tokens of a text are those of its front and of the rest
 pub record IsFollowed (whole : ℕ) (ts zs : List Token) (rest : List ℕ) : Type 0 where
@@ -210,38 +203,21 @@ pub record IsRun (whole : ℕ) (text kinds : List ℕ) : Type 0 where
   pub stopped : first_token whole rest ≡ None
   pub bytes : kinds ≡ map token_byte tokens
 
-nothing_there : (whole : ℕ) → first_token whole [] ≡ None
-unfolding first_token
-nothing_there whole = refl
-
-pub run : (whole : ℕ) (fuel text : List ℕ) → length text ≤ length fuel → IsRun whole text (kinds_from whole fuel text)
-run whole [] [] h = record { tokens = []; front = []; rest = []; joined = refl; read = refl; stays = refl; stopped = nothing_there whole; bytes = refl }
-run whole [] (b ∷ text) h = absurd (omega arith)
-run whole (f ∷ fuel) text h =
-    let s = skipped text in
-    elim (first_token whole (behind_spaces text)) as (λ o. first_token whole (behind_spaces text) ≡ o → IsRun whole text (then_bytes (option_map (λ first. (token_byte first.0, first.1)) o) (kinds_from whole fuel))) [
-      | None ↦ λ e. record { tokens = []; front = s.0; rest = behind_spaces text; joined = s.1; read = s.2; stays = skips_once text; stopped = e; bytes = refl }
-      | Some found ↦ λ e. one_more fuel text found s h e (λ short. run whole fuel found.1 short)
-    ] refl
-  where
-    one_more : (fuel text : List ℕ) (found : Token × List ℕ) → Skipped text → length text ≤ suc (length fuel) → first_token whole (behind_spaces text) ≡ Some found → (length found.1 ≤ length fuel → IsRun whole found.1 (kinds_from whole fuel found.1)) → IsRun whole text (token_byte found.0 ∷ kinds_from whole fuel found.1)
-    one_more fuel text found s h e again =
-        let taken = token_sound whole (behind_spaces text) found.0 found.1 e in
-        let solid = token_solid whole found.0 taken.front found.1 taken.spelled in
-        let joined : text ≡ s.0 ++ (taken.front ++ found.1) = s.1 ∙ ap (λ z. s.0 ++ z) taken.joined in
-        let sizes : length text ≡ length s.0 + (length taken.front + length found.1) = ap length joined ∙ length-append s.0 (taken.front ++ found.1) ∙ ap (λ z. length s.0 + z) (length-append taken.front found.1) in
-        let some : length taken.front ≡ suc (length solid.tail) = ap length solid.is in
-        let more = again (omega (arith, sizes, some, h)) in
-        record {
-          tokens = found.0 ∷ more.tokens;
-          front = s.0 ++ (taken.front ++ more.front);
-          rest = more.rest;
-          joined = joined ∙ ap (λ z. s.0 ++ (taken.front ++ z)) more.joined ∙ sym (stepped s.0 taken.front more.front more.rest);
-          read = record { gap = s.0; own = taken.front; back = more.front; joined = refl; spaces = s.2; spelled = subst (IsTokenAt whole found.0 taken.front) more.joined taken.spelled; more = more.read };
-          stays = more.stays;
-          stopped = more.stopped;
-          bytes = ap (λ z. token_byte found.0 ∷ z) more.bytes;
-        }
+pub run : (text : List ℕ) → IsRun (length text) text (kinds_in text)
+run text =
+    let whole = length text in
+    let some = some_tokens whole whole text (omega arith) in
+    let f = front_of whole (IsStuck whole) some.0 text some.1 in
+    record {
+      tokens = some.0;
+      front = f.front;
+      rest = f.rest;
+      joined = f.joined;
+      read = f.read;
+      stays = unspaced_stays f.rest f.behind.no_space;
+      stopped = stuck_none whole f.rest f.behind;
+      bytes = kinds_spelled whole text text some.0 (omega arith) some.1;
+    }
 
 -- the tokens of a front in two parts
 pub record IsCut (whole : ℕ) (xs ys : List Token) (text rest : List ℕ) : Type 0 where
@@ -276,25 +252,16 @@ cut whole (x ∷ xs) ys p m st h =
 -- a step's token is the first behind the spaces
 pub step_first : {whole : ℕ} {More : List ℕ → Type 0} {t : Token} {front rest : List ℕ} (h : IsStep whole More t front rest) → first_token whole (behind_spaces (front ++ rest)) ≡ Some (t, h.back ++ rest)
 step_first {whole} {More} {t} {front} {rest} h =
-    let starts = token_starts whole t h.own (h.back ++ rest) h.spelled in
-    ap (λ z. first_token whole (behind_spaces z)) (step_text h)
-    ∙ ap (first_token whole) (skip_gap h.gap (h.own ++ (h.back ++ rest)) h.spaces ∙ solid_stays (h.own ++ (h.back ++ rest)) starts)
-    ∙ token_found whole t h.own (h.back ++ rest) h.spelled
-
-pub behind_front : (whole : ℕ) (ts : List Token) (p m : List ℕ) → IsFront whole ts p m → behind_spaces m ≡ m → behind_tokens whole (map token_byte ts) (p ++ m) ≡ m
-behind_front whole [] p m h st = skip_gap p m h ∙ st
-behind_front whole (t ∷ ts) p m h st = rw (step_first h) (behind_front whole ts h.back m h.more st)
+    let led : IsLed whole (λ r. r ≡ h.back ++ rest) t (front ++ rest) = record { gap = h.gap; front = h.own; rest = h.back ++ rest; joined = step_text h; spaces = h.spaces; spelled = h.spelled; behind = refl } in
+    led_first whole led
 
 -- ---- numbers that are not read
-
-no_digits : (b : ℕ) (text : List ℕ) → is_ascii_digit b ≡ false → unsigned_length (b ∷ text) ≡ 0
-no_digits b text h = let none : is_digit b ≡ false = grind (arith, nat_tests) in rw none refl
 
 digit_first : (b : ℕ) (text : List ℕ) → is_unread (b ∷ text) ≡ true → is_ascii_digit b ≡ true
 digit_first b text h =
     elim (is_ascii_digit b) as (λ d. is_ascii_digit b ≡ d → d ≡ true) [
       | true ↦ λ d. refl
-      | false ↦ λ d. absurd (let n = no_digits b text d in false≢true (sym (sym h ∙ ap (λ k. not (nat_eq k 0) && not (is_number (take k (b ∷ text)))) n)))
+      | false ↦ λ d. absurd (let n = no_digits 0 b text d in false≢true (sym (sym h ∙ ap (λ k. not (nat_eq k 0) && not (is_number (take k (b ∷ text)))) n)))
     ] refl
 
 digit_no_space : (b : ℕ) → is_ascii_digit b ≡ true → is_space b ≡ false
@@ -303,10 +270,6 @@ digit_no_space b h = grind (arith, nat_tests)
 pub unread_solid : (text : List ℕ) → is_unread text ≡ true → IsSolid text
 unread_solid [] h = absurd (false≢true h)
 unread_solid (b ∷ text) h = record { head = b; tail = text; is = refl; no_space = digit_no_space b (digit_first b text h) }
-
-by_digit : (whole b : ℕ) (text : List ℕ) → is_ascii_digit b ≡ true → first_token whole (b ∷ text) ≡ first_number (b ∷ text)
-unfolding first_token
-by_digit whole b text h = rw h refl
 
 never : (a b : Bool) → (not a && not b) ≡ true → b ≡ false
 never true b h = absurd (false≢true h)

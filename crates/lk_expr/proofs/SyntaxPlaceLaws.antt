@@ -1,28 +1,27 @@
 -- The place of a text that is no text of a grammar over the kinds of its tokens.
-use Rattle.std.proofs.Common.{◌≡◌, ◌⊎◌, inl, inr, ℕ, zero, suc, ◌+◌, ◌-◌, ◌<◌, ◌≤◌, max, true, false, if◌then◌else◌, List, [], ◌∷◌, ◌++◌, length, take, drop, map, Option, Some, None, refl, sym, ap, subst, ◌∙◌, append_assoc, length-append, append-nil, arith}
+use Rattle.std.proofs.Common.{◌≡◌, ◌⊎◌, inl, inr, ℕ, zero, suc, ◌+◌, ◌-◌, ◌<◌, ◌≤◌, max, true, false, List, [], ◌∷◌, ◌++◌, length, take, drop, map, Option, Some, None, refl, sym, ap, subst, ◌∙◌, append_assoc, length-append, append-nil, arith}
 use Rattle.std.specs.Prelude.{slice_get}
 use Rattle.std.specs.List.{AllByRecursion}
 use Rattle.std.specs.Option.{unwrap_or}
 use Rattle.std.proofs.lemmas.Bool.{false≢true, cases_lt}
 use Rattle.std.proofs.lemmas.Option.{some_pair_parts, same_Some}
-use Rattle.std.proofs.lemmas.List.{take-append-drop}
+use Rattle.std.proofs.lemmas.List.{take-append-drop, take-map, map-append, length-map}
 use Rattle.std.proofs.Math.Seq.{take-append_seam, take-append-add, length-take-le}
 use Rattle.lk_grammar.specs.Places.{IsViable, IsPlace, Judges}
 use Rattle.lk_grammar.proofs.ReadingLaws.{place_of_judged}
 use Rattle.lk_expr_text.specs.declared.token.Token.{Token}
 use Rattle.lk_expr_text.specs.declared.kind.TokenKind.{TokenKind}
-use Rattle.lk_expr_text.specs.Tokens.{is_space, IsTokenAt, IsSpelled}
+use Rattle.lk_expr_text.specs.Tokens.{IsTokenAt, IsSpelled}
 use Rattle.lk_expr_text.specs.Lexing.{first_token}
-use Rattle.lk_expr_text.specs.declared.token.Keyword.TheVariants as keyword
-use Rattle.lk_expr_text.specs.declared.token.Sign.TheVariants as sign
-use Rattle.lk_expr_text.specs.declared.kind.TokenKind.TheVariants as kind
 use Rattle.lk_expr_text.specs.TokenKinds.{token_kind, token_byte, kind_byte, token_kinds}
-use Rattle.lk_expr_text.specs.TokenFronts.{is_unread, IsOfKind, IsUnreadAt, IsSpelledThen, behind_spaces, kinds_in, behind_tokens}
+use Rattle.lk_expr_text.specs.TokenFronts.{is_unread, IsOfKind, IsUnreadAt, IsSpelledThen, IsUnspaced, behind_spaces, kinds_in, behind_tokens}
 use Rattle.lk_expr_text.proofs.LexSteps.{no_some}
 use Rattle.lk_expr_text.proofs.LexLaws.{token_found}
 use Rattle.lk_expr_text.proofs.KindLaws.{EndsSo, same_head, token_before, kind_at_end, of_kind, IsSolid, token_solid, solid_stays}
 use Rattle.lk_expr.specs.SyntaxPlaces.{IsSyntaxPlace, IsKindText, MayFollow, IsLongest, IsStart}
-use Rattle.lk_expr.proofs.ReadFronts.{solid_more, solid_not_spaces, gap_same, skip_gap, IsFront, moved, step_text, step_first, glued, front_then, followed, IsRun, run, IsCut, cut, behind_front, one_token, same_unread, sampled, ends_sampled, kind_before, spelled_samples}
+use Rattle.lk_expr_text.proofs.KindsKnown.{kind_there}
+use Rattle.lk_expr_text.proofs.FrontTokens.{skip_gap, skips_all, solid_more, behind_spelled}
+use Rattle.lk_expr.proofs.ReadFronts.{solid_not_spaces, gap_same, IsFront, moved, step_text, step_first, glued, front_then, followed, IsRun, run, IsCut, cut, one_token, same_unread, sampled, ends_sampled, kind_before, spelled_samples}
 
 -- ---- lists
 
@@ -34,19 +33,6 @@ image_behind : (zs : List Token) (front more : List ℕ) → map token_byte zs �
 image_behind zs [] more e = (zs, e)
 image_behind [] (b ∷ front) more e = absurd (let f : ⊥ = cc in f)
 image_behind (z ∷ zs) (b ∷ front) more e = let rest : map token_byte zs ≡ front ++ more = cc in image_behind zs front more rest
-
-map_joined : (xs ys : List Token) → map token_byte (xs ++ ys) ≡ map token_byte xs ++ map token_byte ys
-map_joined [] ys = refl
-map_joined (x ∷ xs) ys = ap (λ z. token_byte x ∷ z) (map_joined xs ys)
-
-map_taken : (n : ℕ) (xs : List Token) → take n (map token_byte xs) ≡ map token_byte (take n xs)
-map_taken zero xs = refl
-map_taken (suc n) [] = refl
-map_taken (suc n) (x ∷ xs) = ap (λ z. token_byte x ∷ z) (map_taken n xs)
-
-map_sized : (xs : List Token) → length (map token_byte xs) ≡ length xs
-map_sized [] = refl
-map_sized (x ∷ xs) = ap suc (map_sized xs)
 
 -- one front of a text begins with the other
 abbrev Longer : List ℕ → List ℕ → Type 0
@@ -66,39 +52,6 @@ rest_same [] y z e = e
 rest_same (b ∷ x) y z e = let more : x ++ y ≡ x ++ z = cc in rest_same x y z more
 
 -- ---- every kind
-
-kind_there : (k : TokenKind) → slice_get token_kinds (kind_byte k - 1) ≡ Some k
-kind_there (kind.Word keyword.And) = refl
-kind_there (kind.Word keyword.Or) = refl
-kind_there (kind.Word keyword.Not) = refl
-kind_there (kind.Word keyword.Is) = refl
-kind_there (kind.Word keyword.Null) = refl
-kind_there (kind.Word keyword.In) = refl
-kind_there (kind.Word keyword.Between) = refl
-kind_there (kind.Word keyword.Like) = refl
-kind_there (kind.Word keyword.True) = refl
-kind_there (kind.Word keyword.False) = refl
-kind_there (kind.Word keyword.Case) = refl
-kind_there (kind.Word keyword.When) = refl
-kind_there (kind.Word keyword.Then) = refl
-kind_there (kind.Word keyword.Else) = refl
-kind_there (kind.Word keyword.End) = refl
-kind_there (kind.Sign sign.Plus) = refl
-kind_there (kind.Sign sign.Minus) = refl
-kind_there (kind.Sign sign.Concat) = refl
-kind_there (kind.Sign sign.Times) = refl
-kind_there (kind.Sign sign.Over) = refl
-kind_there (kind.Sign sign.Open) = refl
-kind_there (kind.Sign sign.Close) = refl
-kind_there (kind.Sign sign.Comma) = refl
-kind_there kind.MeasureFunction = refl
-kind_there kind.Name = refl
-kind_there kind.Compare = refl
-kind_there kind.Number = refl
-kind_there kind.Text = refl
-kind_there kind.Column = refl
-kind_there kind.Field = refl
-kind_there kind.FieldOf = refl
 
 among : (P : TokenKind → Type 0) (ks : List TokenKind) (n : ℕ) (k : TokenKind) → slice_get ks n ≡ Some k → AllByRecursion P ks → P k
 among P [] n k e h = absurd (no_some k e)
@@ -122,7 +75,7 @@ module _ (Kinds : List ℕ → Type 0) (tokens_of : (bytes : List ℕ) → Kinds
       let other = length (p ++ y) in
       let mv = moved whole other xs p rest y (ends_sampled rest ys.0) h in
       let sp = spelled_samples other ys.0 in
-      let same : map token_byte xs ++ v.0 ≡ map token_byte (mv.tokens ++ sp.0) = sym (map_joined mv.tokens sp.0 ∙ (λ i. mv.bytes i ++ (sp.1 ∙ ys.1) i)) in
+      let same : map token_byte xs ++ v.0 ≡ map token_byte (mv.tokens ++ sp.0) = sym (map-append token_byte mv.tokens sp.0 ∙ (λ i. mv.bytes i ++ (sp.1 ∙ ys.1) i)) in
       (y, (mv.tokens ++ sp.0, glued other mv.tokens sp.0 p y mv.is sp.2, subst Kinds same v.1))
 
   headed : (b : ℕ) (rest more other : List ℕ) → rest ≡ b ∷ more → (tail : List ℕ) → other ≡ b ∷ tail → EndsSo rest other
@@ -143,7 +96,7 @@ module _ (Kinds : List ℕ → Type 0) (tokens_of : (bytes : List ℕ) → Kinds
       let kind : token_kind t.0 ≡ k = t.1 ∙ at.1 in
       let spelled : IsSpelled other (t.0 ∷ sp.0) ((x ++ of.0) ++ y) = record { gap = []; front = x ++ of.0; rest = y; joined = refl; spaces = refl; spelled = t.2; behind = sp.2 } in
       let same : (map token_byte xs ++ kind_byte k ∷ []) ++ v.0 ≡ map token_byte (mv.tokens ++ t.0 ∷ sp.0) =
-      append_assoc (map token_byte xs) (kind_byte k ∷ []) v.0 ∙ sym (map_joined mv.tokens (t.0 ∷ sp.0) ∙ (λ i. mv.bytes i ++ (kind_byte (kind i) ∷ (sp.1 ∙ ys.1) i))) in
+      append_assoc (map token_byte xs) (kind_byte k ∷ []) v.0 ∙ sym (map-append token_byte mv.tokens (t.0 ∷ sp.0) ∙ (λ i. mv.bytes i ++ (kind_byte (kind i) ∷ (sp.1 ∙ ys.1) i))) in
       (of.0 ++ y, (mv.tokens ++ t.0 ∷ sp.0, subst (IsSpelled other (mv.tokens ++ t.0 ∷ sp.0)) (sym joined) (glued other mv.tokens (t.0 ∷ sp.0) p ((x ++ of.0) ++ y) mv.is spelled), subst Kinds same v.1))
 
   -- ---- nothing longer may stand
@@ -151,7 +104,7 @@ module _ (Kinds : List ℕ → Type 0) (tokens_of : (bytes : List ℕ) → Kinds
   -- what the grammar says of a text that goes on behind a front, with the first token of the rest
   may_of : (xs moved_xs : List Token) (t : Token) (ts : List Token) → map token_byte moved_xs ≡ map token_byte xs → Kinds (map token_byte (moved_xs ++ t ∷ ts)) → MayFollow Kinds (map token_byte xs) (token_kind t)
   may_of xs moved_xs t ts e k =
-      (map token_byte ts, subst Kinds (map_joined moved_xs (t ∷ ts) ∙ ap (λ z. z ++ (token_byte t ∷ map token_byte ts)) e ∙ sym (append_assoc (map token_byte xs) (token_byte t ∷ []) (map token_byte ts))) k)
+      (map token_byte ts, subst Kinds (map-append token_byte moved_xs (t ∷ ts) ∙ ap (λ z. z ++ (token_byte t ∷ map token_byte ts)) e ∙ sym (append_assoc (map token_byte xs) (token_byte t ∷ []) (map token_byte ts))) k)
 
   -- a token that the longer text has where the rest begins: it is longer than what was read, or the rest has it too
   longest_by : (whole other : ℕ) (rest x y own behind left : List ℕ) (n : ℕ) (t : Token) (kinds : List ℕ) → rest ≡ x ++ left → x ++ y ≡ own ++ behind → IsTokenAt other t own behind → MayFollow Kinds kinds (token_kind t)
@@ -209,12 +162,12 @@ module _ (Kinds : List ℕ → Type 0) (tokens_of : (bytes : List ℕ) → Kinds
   stops whole xs (t ∷ ys) middle m left stays st none pl u r e may =
       let parts = some_pair_parts t u (left.back ++ m) r (sym (ap (first_token whole) (sym stays) ∙ step_first left) ∙ e) in
       let bytes = map token_byte xs in
-      let sized = map_sized xs in
+      let sized = length-map xs token_byte in
       let next : suc (length xs) ≡ length bytes + 1 = omega (arith, sized) in
       let taken : take (suc (length xs)) (map token_byte (xs ++ t ∷ ys)) ≡ bytes ++ token_byte t ∷ [] =
-      (λ i. take (next i) (map_joined xs (t ∷ ys) i)) ∙ take-append-add bytes (token_byte t ∷ map token_byte ys) 1 in
+      (λ i. take (next i) (map-append token_byte xs (t ∷ ys) i)) ∙ take-append-add bytes (token_byte t ∷ map token_byte ys) 1 in
       let viable : IsViable Kinds (take (suc (length xs)) (map token_byte (xs ++ t ∷ ys))) = subst (IsViable Kinds) (sym taken) (subst (λ z. MayFollow Kinds bytes (token_kind z)) (sym parts.0) may) in
-      let sizes = ap length (map_joined xs (t ∷ ys)) ∙ length-append bytes (token_byte t ∷ map token_byte ys) in
+      let sizes = ap length (map-append token_byte xs (t ∷ ys)) ∙ length-append bytes (token_byte t ∷ map token_byte ys) in
       let more = pl.longest (suc (length xs)) (omega (arith, sizes, sized)) viable in
       omega (arith, more)
 
@@ -271,18 +224,7 @@ module _ (Kinds : List ℕ → Type 0) (tokens_of : (bytes : List ℕ) → Kinds
       omega (arith, sized, short)
     where
       solid_rest : (b : ℕ) (rest : List ℕ) → behind_spaces (b ∷ rest) ≡ b ∷ rest → IsSolid (b ∷ rest)
-      solid_rest b rest stays =
-          elim (is_space b) as (λ d. is_space b ≡ d → IsSolid (b ∷ rest)) [
-            | true ↦ λ d. absurd (let s : behind_spaces rest ≡ b ∷ rest = sym (rw d refl) ∙ stays in shrinks rest (b ∷ rest) s (omega arith))
-            | false ↦ λ d. record { head = b; tail = rest; is = refl; no_space = d }
-          ] refl
-        where
-          short : (text : List ℕ) → length (behind_spaces text) ≤ length text
-          short [] = omega arith
-          short (c ∷ text) = elim (is_space c) as (λ d. length (if d then behind_spaces text else c ∷ text) ≤ suc (length text)) [ true ↦ let s = short text in omega (arith, s) | false ↦ omega arith ]
-
-          shrinks : (text other : List ℕ) → behind_spaces text ≡ other → length text < length other → ⊥
-          shrinks text other e less = let s = short text in omega (arith, s, ap length e, less)
+      solid_rest b rest stays = record { head = b; tail = rest; is = refl; no_space = subst IsUnspaced stays (skips_all (b ∷ rest)) b rest refl }
 
   sized_text : (text p rest : List ℕ) → text ≡ p ++ rest → length text ≡ length p + length rest
   sized_text text p rest e = ap length e ∙ length-append p rest
@@ -339,7 +281,9 @@ module _ (Kinds : List ℕ → Type 0) (tokens_of : (bytes : List ℕ) → Kinds
       → IsSyntaxPlace (IsKindText Kinds) text ((length text - length rest) + n)
   syntax_place text o kinds rest n judged kinds_is rest_is at_once start =
       let there = r.joined ∙ c.joined in
-      let left_is : rest ≡ c.middle ++ r.rest = rest_is ∙ (λ i. behind_tokens (length text) (kinds_are i) (there i)) ∙ behind_front (length text) xs c.front (c.middle ++ r.rest) c.read c.stays in
+      let left_is : rest ≡ c.middle ++ r.rest = rest_is ∙ ap (behind_tokens (length text) kinds) there
+      ∙ behind_spelled (length text) (c.front ++ (c.middle ++ r.rest)) (c.middle ++ r.rest) xs kinds (ap length kinds_are ∙ length-map xs token_byte) (subst IsUnspaced c.stays (skips_all (c.middle ++ r.rest)))
+      (front_then (length text) (λ z. z ≡ c.middle ++ r.rest) xs c.front (c.middle ++ r.rest) c.read refl) in
       let at = place_at text xs ys c.front c.middle r.rest n there c.read c.left c.stays r.stays r.stopped placed (subst (IsViable Kinds) kinds_xs place.begins) all
       (λ d. at_once (ap is_unread left_is ∙ d)) (λ d. subst (λ z. IsStart Kinds z (c.middle ++ r.rest) token_kinds n) kinds_are (subst (λ z. IsStart Kinds kinds z token_kinds n) left_is (start (ap is_unread left_is ∙ d)))) in
       let sizes = sized_text text c.front (c.middle ++ r.rest) there in
@@ -351,7 +295,7 @@ module _ (Kinds : List ℕ → Type 0) (tokens_of : (bytes : List ℕ) → Kinds
       i = unwrap_or o (length (kinds_in text))
 
       r : IsRun (length text) text (kinds_in text)
-      r = run (length text) text text (omega arith)
+      r = run text
 
       place : IsPlace Kinds (kinds_in text) i
       place = place_of_judged Kinds (kinds_in text) o judged
@@ -366,10 +310,10 @@ module _ (Kinds : List ℕ → Type 0) (tokens_of : (bytes : List ℕ) → Kinds
       joined = take-append-drop i r.tokens
 
       inside : i ≤ length r.tokens
-      inside = let w = place.within in omega (arith, w, ap length r.bytes, map_sized r.tokens)
+      inside = let w = place.within in omega (arith, w, ap length r.bytes, length-map r.tokens token_byte)
 
       kinds_xs : take i (kinds_in text) ≡ map token_byte xs
-      kinds_xs = ap (take i) r.bytes ∙ map_taken i r.tokens
+      kinds_xs = ap (take i) r.bytes ∙ take-map token_byte i r.tokens
 
       kinds_are : kinds ≡ map token_byte xs
       kinds_are = kinds_is ∙ kinds_xs

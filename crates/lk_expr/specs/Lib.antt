@@ -4,3 +4,5 @@ pub mod KindForms
 pub mod KindGrammar
 pub mod SyntaxPlaces
 pub mod ExprTexts
+pub mod Operands
+pub mod Patterns

@@ -1,13 +1,15 @@
 ghost use Rattle.std.specs.Prelude.{◌≡◌, true, slice_index_or, IfOk};
 ghost use Rattle.lk_val.specs.declared.value.Value.TheVariants as value;
 ghost use Rattle.lk_types.specs.FormulaCode.{formula_of, formulas_of, cases_of};
-ghost use Rattle.lk_types.specs.Expressions.{column_of, first_case, first_known, is_one_of, truth_of, value_of, values_of};
+ghost use Rattle.lk_types.specs.Expressions.{column_of, first_case, first_known, is_one_of, truth_of, value_of, value_of_truth, values_of};
+ghost use Rattle.lk_expr.specs.Operands.{is_test, operand_value};
 ghost use Rattle.lk_expr.specs.Dates.{are_literals_dated, are_all_dated, are_cases_dated, is_row_dated};
 
 use crate::arithmetic::{apply, negated};
 use crate::comparison::{compared, is_null, null_if};
 use crate::framed::timeframe_of;
 use crate::like::like;
+use crate::operand::Operand;
 use crate::texts::{joined_text, lower_text, upper_text};
 use crate::truth::{and_of, is_true, not_of, or_of, truth_of, value_of_truth};
 use lk_types::{Args, Branches, Comparison, Expr, Joined, Node};
@@ -33,52 +35,82 @@ fn eval_node(alloc: Global, node: &Node, row: &Joined) -> Result<Value, NoMemory
     match node {
         Node::Column(part, column) => copy_cell(alloc, row, *part, *column),
         Node::Literal(v) => v.copy(alloc),
-        Node::Framed(f, a) => timeframe_of(alloc, *f, &eval_node(alloc, a, row)?),
-        Node::Not(a) => Ok(value_of_truth(not_of(eval_truth(alloc, a, row)?))),
-        Node::And(a, b) => {
-            let a = eval_truth(alloc, a, row)?;
-            Ok(value_of_truth(and_of(a, eval_truth(alloc, b, row)?)))
-        }
-        Node::Or(a, b) => {
-            let a = eval_truth(alloc, a, row)?;
-            Ok(value_of_truth(or_of(a, eval_truth(alloc, b, row)?)))
-        }
-        Node::Compare(c, a, b) => {
-            let a = eval_node(alloc, a, row)?;
-            Ok(value_of_truth(compared(*c, &a, &eval_node(alloc, b, row)?)))
-        }
-        Node::IsNull(a) => Ok(Value::Truth(is_null(&eval_node(alloc, a, row)?))),
-        Node::In(a, all) => {
-            let a = eval_node(alloc, a, row)?;
-            Ok(value_of_truth(is_one_of(alloc, &a, all, row)?))
-        }
-        Node::Between(a, low, high) => {
-            let a = eval_node(alloc, a, row)?;
-            let above = compared(Comparison::AtLeast, &a, &eval_node(alloc, low, row)?);
-            let below = compared(Comparison::AtMost, &a, &eval_node(alloc, high, row)?);
-            Ok(value_of_truth(and_of(above, below)))
-        }
-        Node::Like(a, pieces) => {
-            let a = eval_node(alloc, a, row)?;
-            Ok(value_of_truth(like(&a, pieces.as_slice())))
-        }
+        Node::Framed(f, a) => timeframe_of(alloc, *f, operand(alloc, a, row)?.value()),
         Node::Number(op, a, b) => {
-            let a = eval_node(alloc, a, row)?;
-            Ok(apply(*op, &a, &eval_node(alloc, b, row)?))
+            let a = operand(alloc, a, row)?;
+            Ok(apply(*op, a.value(), operand(alloc, b, row)?.value()))
         }
-        Node::Negate(a) => Ok(negated(&eval_node(alloc, a, row)?)),
+        Node::Negate(a) => Ok(negated(operand(alloc, a, row)?.value())),
         Node::Concat(a, b) => {
-            let a = eval_node(alloc, a, row)?;
-            joined_text(alloc, &a, &eval_node(alloc, b, row)?)
+            let a = operand(alloc, a, row)?;
+            joined_text(alloc, a.value(), operand(alloc, b, row)?.value())
         }
-        Node::Lower(a) => lower_text(alloc, &eval_node(alloc, a, row)?),
-        Node::Upper(a) => upper_text(alloc, &eval_node(alloc, a, row)?),
+        Node::Lower(a) => lower_text(alloc, operand(alloc, a, row)?.value()),
+        Node::Upper(a) => upper_text(alloc, operand(alloc, a, row)?.value()),
         Node::Case(cases) => first_case(alloc, cases, row),
         Node::Coalesce(all) => first_known(alloc, all, row),
         Node::NullIf(a, b) => {
             let a = eval_node(alloc, a, row)?;
-            Ok(null_if(a, &eval_node(alloc, b, row)?))
+            Ok(null_if(a, operand(alloc, b, row)?.value()))
         }
+        Node::Not(_)
+        | Node::And(_, _)
+        | Node::Or(_, _)
+        | Node::Compare(_, _, _)
+        | Node::IsNull(_)
+        | Node::In(_, _)
+        | Node::Between(_, _, _)
+        | Node::Like(_, _) => Ok(value_of_truth(eval_test(alloc, node, row)?)),
+    }
+}
+
+// The truth value of a test; nothing is said of other expressions.
+#[cycle(eval)]
+fn eval_test(alloc: Global, node: &Node, row: &Joined) -> Result<Option<bool>, NoMemory>
+    requires row { is_row_dated row.now ≡ true }
+    requires literals { are_literals_dated (formula_of node.now) ≡ true }
+    ensures { is_test (formula_of node.now) ≡ true → IfOk result (λ truth. value_of_truth truth ≡ value_of (formula_of node.now) row.now) }
+{
+    match node {
+        Node::Not(a) => Ok(not_of(eval_truth(alloc, a, row)?)),
+        Node::And(a, b) => {
+            let a = eval_truth(alloc, a, row)?;
+            Ok(and_of(a, eval_truth(alloc, b, row)?))
+        }
+        Node::Or(a, b) => {
+            let a = eval_truth(alloc, a, row)?;
+            Ok(or_of(a, eval_truth(alloc, b, row)?))
+        }
+        Node::Compare(c, a, b) => {
+            let a = operand(alloc, a, row)?;
+            Ok(compared(*c, a.value(), operand(alloc, b, row)?.value()))
+        }
+        Node::IsNull(a) => Ok(Some(is_null(operand(alloc, a, row)?.value()))),
+        Node::In(a, all) => is_one_of(alloc, operand(alloc, a, row)?.value(), all, row),
+        Node::Between(a, low, high) => {
+            let a = operand(alloc, a, row)?;
+            let low = operand(alloc, low, row)?;
+            let above = compared(Comparison::AtLeast, a.value(), low.value());
+            let high = operand(alloc, high, row)?;
+            let below = compared(Comparison::AtMost, a.value(), high.value());
+            Ok(and_of(above, below))
+        }
+        Node::Like(a, pieces) => Ok(like(operand(alloc, a, row)?.value(), pieces.as_slice())),
+        _ => Ok(None),
+    }
+}
+
+// The value of a part of an expression, borrowed where the row or the expression holds it.
+#[cycle(eval)]
+fn operand<'a>(alloc: Global, node: &'a Node, row: &'a Joined) -> Result<Operand<'a>, NoMemory>
+    requires row { is_row_dated row.now ≡ true }
+    requires literals { are_literals_dated (formula_of node.now) ≡ true }
+    ensures { IfOk result (λ operand. operand_value operand ≡ value_of (formula_of node.now) row.now) }
+{
+    match node {
+        Node::Column(part, column) => Ok(cell_of(row, *part, *column)),
+        Node::Literal(v) => Ok(Operand::Held(v)),
+        _ => Ok(Operand::Made(eval_node(alloc, node, row)?)),
     }
 }
 
@@ -89,7 +121,7 @@ fn eval_truth(alloc: Global, node: &Node, row: &Joined) -> Result<Option<bool>, 
     requires literals { are_literals_dated (formula_of node.now) ≡ true }
     ensures { IfOk result (λ truth. truth ≡ truth_of (value_of (formula_of node.now) row.now)) }
 {
-    Ok(truth_of(&eval_node(alloc, node, row)?))
+    Ok(truth_of(operand(alloc, node, row)?.value()))
 }
 
 // Whether a value is one of some: yes where it equals one, and else unknown where a comparison is.
@@ -102,7 +134,7 @@ fn is_one_of(alloc: Global, v: &Value, all: &Args, row: &Joined) -> Result<Optio
     match all {
         Args::End => Ok(Some(false)),
         Args::More(a, rest) => {
-            let equal = compared(Comparison::Equal, v, &eval_node(alloc, a, row)?);
+            let equal = compared(Comparison::Equal, v, operand(alloc, a, row)?.value());
             Ok(or_of(equal, is_one_of(alloc, v, rest, row)?))
         }
     }
@@ -139,7 +171,7 @@ fn first_case(alloc: Global, cases: &Branches, row: &Joined) -> Result<Value, No
         Branches::End => Ok(Value::Null),
         Branches::Else(a) => eval_node(alloc, a, row),
         Branches::When(c, a, rest) => {
-            if is_true(&eval_node(alloc, c, row)?) {
+            if is_true(operand(alloc, c, row)?.value()) {
                 eval_node(alloc, a, row)
             } else {
                 first_case(alloc, rest, row)
@@ -148,21 +180,31 @@ fn first_case(alloc: Global, cases: &Branches, row: &Joined) -> Result<Value, No
     }
 }
 
-// The value in a column of a part: null where the part is null or has not entered.
+// The value in a column of a part, copied.
 fn copy_cell(alloc: Global, row: &Joined, part: u32, column: u32) -> Result<Value, NoMemory>
     ensures { IfOk result (λ v. v ≡ column_of row.now part column) }
 {
-    match row.parts.as_slice().get(part as usize) {
-        Some(Some(cells)) => copy_at(alloc, cells.as_slice(), column),
-        _ => Ok(Value::Null),
+    match cell_of(row, part, column) {
+        Operand::Held(v) => v.copy(alloc),
+        Operand::Made(v) => Ok(v),
     }
 }
 
-fn copy_at(alloc: Global, cells: &[Value], column: u32) -> Result<Value, NoMemory>
-    ensures { IfOk result (λ v. v ≡ slice_index_or cells.now column value.Null) }
+// The value in a column of a part: null where the part is null or has not entered.
+fn cell_of(row: &Joined, part: u32, column: u32) -> Operand<'_>
+    ensures { operand_value result ≡ column_of row.now part column }
+{
+    match row.parts.as_slice().get(part as usize) {
+        Some(Some(cells)) => cell_at(cells.as_slice(), column),
+        _ => Operand::Made(Value::Null),
+    }
+}
+
+fn cell_at(cells: &[Value], column: u32) -> Operand<'_>
+    ensures { operand_value result ≡ slice_index_or cells.now column value.Null }
 {
     match cells.get(column as usize) {
-        Some(v) => v.copy(alloc),
-        None => Ok(Value::Null),
+        Some(v) => Operand::Held(v),
+        None => Operand::Made(Value::Null),
     }
 }

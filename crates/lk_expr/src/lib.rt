@@ -15,6 +15,7 @@ mod kinds;
 mod laws;
 mod like;
 mod measure_forms;
+mod operand;
 mod places;
 mod reading;
 mod texts;
@@ -24,6 +25,7 @@ pub use dated::{are_literals_dated, is_row_dated};
 pub use evaluation::eval;
 pub use kinds::{Clash, Leaves, kind_of};
 pub use laws::values_have_their_kinds;
+pub use like::{each_pattern_has_a_text, read_pattern};
 pub use reading::{ExprFault, read_expr, read_measure};
 
 #[cfg(test)]

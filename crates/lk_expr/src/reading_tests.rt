@@ -14,7 +14,7 @@ fn fault(read: Result<RawExpr, ExprFault>) -> Option<ExprFault> {
 
 #[test]
 fn a_text_that_is_no_expression_is_refused_at_its_place(rt: HostRuntime) -> Result<(), Fail> {
-    let cases: [(&[u8], u32); 32] = [
+    let cases: [(&[u8], u32); 33] = [
         (b"", 0),
         (b"   ", 3),
         (b"1 +", 3),
@@ -47,6 +47,7 @@ fn a_text_that_is_no_expression_is_refused_at_its_place(rt: HostRuntime) -> Resu
         (b"${orders.price", 14),
         (b"a < > b", 4),
         (b"a | b", 3),
+        (b"FOO()", 4),
     ];
     for (text, place) in cases {
         let found = fault(read_expr(rt.alloc(), text));

@@ -1,5 +1,5 @@
 use super::*;
-use lk_types::{Args, Arithmetic, Branches, Comparison, Expr, Frame, Joined, Kind, Node, Piece};
+use lk_types::{Args, Arithmetic, Branches, Comparison, Expr, Frame, Joined, Kind, Node};
 use lk_val::{Items, NoMemory, Num, Text, Value};
 use std::alloc::Global;
 use std::test::Fail;
@@ -102,12 +102,9 @@ fn case(alloc: Global, c: Node, a: Node, d: Node, b: Node) -> Result<Node, NoMem
     Ok(Node::Case(Box::new(alloc, all)?))
 }
 
-// 'a%b' LIKE 'a^%b', and 'aüb' LIKE 'a_b'
-fn like(alloc: Global, v: Node, middle: Piece) -> Result<Node, NoMemory> {
-    let mut pieces = Items::new(alloc);
-    pieces.push(Piece::Byte(b'a'))?;
-    pieces.push(middle)?;
-    pieces.push(Piece::Byte(b'b'))?;
+// A LIKE of the pattern that the text stands for.
+fn like(alloc: Global, v: Node, pattern: &str) -> Result<Node, NoMemory> {
+    let pieces = read_pattern(alloc, &Text::from_str(alloc, pattern)?)?;
     Ok(Node::Like(Box::new(alloc, v)?, pieces))
 }
 
@@ -278,20 +275,16 @@ fn text_cases(alloc: Global) -> Result<[(Node, Value, &'static str); 8], NoMemor
     let thursday = framed(alloc, Frame::DayOfWeek, Node::Literal(Value::Day(19_782)))?;
     Ok([
         (
-            like(alloc, text(alloc, "a%b")?, Piece::Byte(b'%'))?,
+            like(alloc, text(alloc, "a%b")?, "a^%b")?,
             Value::Truth(true),
             "'a%b' LIKE 'a^%b'",
         ),
         (
-            like(alloc, text(alloc, "aüb")?, Piece::One)?,
+            like(alloc, text(alloc, "aüb")?, "a_b")?,
             Value::Truth(true),
             "'aüb' LIKE 'a_b'",
         ),
-        (
-            like(alloc, null(), Piece::Any)?,
-            Value::Null,
-            "NULL LIKE 'a%b'",
-        ),
+        (like(alloc, null(), "a%b")?, Value::Null, "NULL LIKE 'a%b'"),
         (
             concat(alloc, ab, text(alloc, "c")?)?,
             text_value(alloc, "Abc")?,
@@ -325,6 +318,32 @@ fn texts_are_matched_and_joined(rt: HostRuntime) -> Result<(), Fail> {
     for (node, wanted, message) in text_cases(rt.alloc()).or(Err("memory"))? {
         let found = value(rt.alloc(), node).or(Err("memory"))?;
         assert_eq!(rt; found, wanted, "{message}");
+    }
+    Ok(())
+}
+
+#[test]
+fn patterns_are_read_byte_by_byte(rt: HostRuntime) -> Result<(), Fail> {
+    let cases = [
+        ("a%", "abc", true),
+        ("a%", "ba", false),
+        ("a_", "ab", true),
+        ("a_", "a", false),
+        ("a^_", "a_", true),
+        ("a^_", "ab", false),
+        ("a^%", "abc", false),
+        ("a^^b", "a^b", true),
+        ("^a^b", "ab", true),
+        ("a^", "a^", true),
+        ("a^", "a", false),
+        ("", "", true),
+        ("", "a", false),
+    ];
+    for (pattern, covered, wanted) in cases {
+        let alloc = rt.alloc();
+        let node = like(alloc, text(alloc, covered).or(Err("memory"))?, pattern);
+        let found = value(alloc, node.or(Err("memory"))?).or(Err("memory"))?;
+        assert_eq!(rt; found, Value::Truth(wanted), "{covered} LIKE {pattern}");
     }
     Ok(())
 }

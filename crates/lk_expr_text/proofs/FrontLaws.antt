@@ -57,14 +57,14 @@ carried : (k : TokenKind) (form : Form) (text : List ℕ) (n : ℕ) → (k ≡ k
 carried k form text n isnt e h = place_carried (λ t i. kind_onward k form t isnt e i) (λ t i. whole_viable (IsText form) t (kind_is_text k form t e i)) text n h
 
 -- of every kind that has a form
-pub form_placed : (k : TokenKind) (form : Form) (text : List ℕ) (n : ℕ) → kind_form k ≡ Some form → is_unread text ≡ false → IsPlace (IsText form) text n → IsPlace (IsOfKind k) text n
+pub form_placed : (k : TokenKind) (form : Form) (text : List ℕ) (n : ℕ) → kind_form k ≡ Some form → (k ≡ kind.Number → is_unread text ≡ false) → IsPlace (IsText form) text n → IsPlace (IsOfKind k) text n
 unfolding kind_form
 form_placed (kind.Word k) form text n e read h = carried (kind.Word k) form text n (λ i. cc) e h
 form_placed (kind.Sign s) form text n e read h = carried (kind.Sign s) form text n (λ i. cc) e h
 form_placed kind.MeasureFunction form text n e read h = carried kind.MeasureFunction form text n (λ i. cc) e h
 form_placed kind.Name form text n e read h = carried kind.Name form text n (λ i. cc) e h
 form_placed kind.Compare form text n e read h = carried kind.Compare form text n (λ i. cc) e h
-form_placed kind.Number form text n e read h = numbers_placed text n read (subst (λ f. IsPlace (IsText f) text n) (sym (same_Some _ form e)) h)
+form_placed kind.Number form text n e read h = numbers_placed text n (read refl) (subst (λ f. IsPlace (IsText f) text n) (sym (same_Some _ form e)) h)
 form_placed kind.Text form text n e read h = absurd (no_some form e)
 form_placed kind.Column form text n e read h = carried kind.Column form text n (λ i. cc) e h
 form_placed kind.Field form text n e read h = carried kind.Field form text n (λ i. cc) e h

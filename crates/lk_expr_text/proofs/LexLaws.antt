@@ -36,7 +36,7 @@ module _ (whole : ℕ) where
   unfolding first_token
   by_letter b text h = rw (letter_no_digit b h, h) refl
 
-  by_digit : (b : ℕ) (text : List ℕ) → is_ascii_digit b ≡ true → first_token whole (b ∷ text) ≡ first_number (b ∷ text)
+  pub by_digit : (b : ℕ) (text : List ℕ) → is_ascii_digit b ≡ true → first_token whole (b ∷ text) ≡ first_number (b ∷ text)
   unfolding first_token
   by_digit b text h = rw h refl
 
@@ -49,7 +49,7 @@ module _ (whole : ℕ) where
       let p = both (is_letter b) (list_all is_name_byte name) h in
       by_letter b (name ++ rest) p.0 ∙ ap (option_map (word_of (whole - length ((b ∷ name) ++ rest)))) (name_found (b ∷ name) rest (bare_named (b ∷ name) h) e)
 
-  no_digits : (b : ℕ) (text : List ℕ) → is_ascii_digit b ≡ false → unsigned_length (b ∷ text) ≡ 0
+  pub no_digits : (b : ℕ) (text : List ℕ) → is_ascii_digit b ≡ false → unsigned_length (b ∷ text) ≡ 0
   no_digits b text h = let none : is_digit b ≡ false = grind (arith, nat_tests) in rw none refl
 
   number_taken : (number rest : List ℕ) → unsigned_length (number ++ rest) ≡ length number → is_number number ≡ true → is_ended is_of_number rest ≡ true → first_number (number ++ rest) ≡ Some (token.Number number, rest)

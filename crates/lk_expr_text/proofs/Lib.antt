@@ -3,6 +3,7 @@ pub mod LexSteps
 pub mod LexLaws
 pub mod TextLaws
 pub mod KindLaws
+pub mod KindsKnown
 pub mod FormFronts
 pub mod KindFronts
 pub mod NumberFronts
@@ -13,3 +14,4 @@ pub mod ParseSound
 pub mod ParseFound
 pub mod ReadLaws
 pub mod ScanSteps
+pub mod FrontTokens

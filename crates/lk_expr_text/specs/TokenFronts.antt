@@ -1,5 +1,5 @@
 -- The tokens in front of a text that spells no expression, and what begins a token of a kind.
-use Rattle.std.specs.Prelude.{◌≡◌, ℕ, ◌+◌, Bool, true, not, ◌&&◌, nat_eq, if◌then◌else◌, List, [], ◌∷◌, ◌++◌, length, take, Option, Some, None, option_map}
+use Rattle.std.specs.Prelude.{◌≡◌, ℕ, ◌+◌, Bool, true, false, not, ◌&&◌, nat_eq, if◌then◌else◌, List, [], ◌∷◌, ◌++◌, length, take, Option, Some, None, option_map}
 use Rattle.std.specs.List.{list_all}
 use Rattle.lk_grammar.specs.Numbers.{unsigned_length}
 use Rattle.lk_expr_text.specs.declared.token.Token.{Token}
@@ -32,6 +32,15 @@ IsSpelledThen whole Behind (t ∷ ts) text = IsLed whole (IsSpelledThen whole Be
 -- a number that no table may hold begins at the byte of the text: tokens are before it
 abbrev pub IsUnreadAt : List ℕ → ℕ → Type 0
 IsUnreadAt text n = (ts : List Token) × IsSpelledThen (length text) (λ rest. (is_unread rest ≡ true) × (n + length rest ≡ length text)) ts text
+
+-- the text begins with no space
+abbrev pub IsUnspaced : List ℕ → Type 0
+IsUnspaced text = (b : ℕ) (more : List ℕ) → text ≡ b ∷ more → is_space b ≡ false
+
+-- no space and no token begins the text, which ends one of so many bytes
+pub record IsStuck (whole : ℕ) (text : List ℕ) : Type 0 where
+  pub no_space : IsUnspaced text
+  pub no_token : (t : Token) (front rest : List ℕ) → text ≡ front ++ rest → IsTokenAt whole t front rest → ⊥
 
 -- ---- how they are found
 

@@ -14,9 +14,11 @@ use std::alloc::Global;
 
 /// The length of the longest front of the text that begins a token of the kind: where a text that was to go on
 /// with such a token goes wrong. Keywords and functions stand in any case, and a keyword begins a name, since
-/// longer names go on from it. Nothing is said where a number comes first that no table may hold. (lookd)
+/// longer names go on from it. Nothing is said of `TokenKind::Number` where a number comes first that no table may
+/// hold. (lookd)
 pub fn begun(alloc: Global, kind: TokenKind, text: &[u8]) -> Result<usize, NoMemory>
-    ensures { IfOk result (λ n. is_unread text.now ≡ false → IsPlace (IsOfKind kind) text.now n) }
+    ensures { IfOk result (λ n. (kind ≡ TokenKind.Number → is_unread text.now ≡ false)
+        → IsPlace (IsOfKind kind) text.now n) }
 {
     match kind_form(alloc, kind)? {
         Some(form) => place_in(alloc, &form, text),

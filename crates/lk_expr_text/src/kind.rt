@@ -1,4 +1,4 @@
-ghost use Rattle.std.specs.Prelude.{◌≡◌};
+ghost use Rattle.std.specs.Prelude.{◌≡◌, ℕ, slice_get};
 ghost use Rattle.lk_expr_text.specs.TokenKinds.{kind_byte, name_kind, sign_byte, token_kind, token_kinds, word_byte};
 
 use crate::calls::function_of;
@@ -101,6 +101,13 @@ pub fn kind_byte(kind: TokenKind) -> u8
         TokenKind::FieldOf => 31,
     }
 }
+
+/// No two kinds have one byte, and `TOKEN_KINDS` lists each kind. A law: it computes nothing.
+pub fn kinds_are_known_by_bytes()
+    ensures known { (j k : TokenKind) → kind_byte j ≡ kind_byte k → j ≡ k }
+    ensures listed { TOKEN_KINDS ≡ token_kinds }
+    ensures every { (k : TokenKind) → (n : ℕ) × (slice_get token_kinds n ≡ Some k) }
+{}
 
 fn word_byte(keyword: Keyword) -> u8
     ensures { result ≡ word_byte keyword }

@@ -1,6 +1,8 @@
-ghost use Rattle.std.specs.Prelude.{◌≡◌, IfOk, length, option_map};
+ghost use Rattle.std.specs.Prelude.{◌≡◌, ℕ, List, IfOk, length, map, option_map};
+ghost use Rattle.lk_expr_text.specs.declared.token.Token.{Token};
 ghost use Rattle.lk_expr_text.specs.Tokens.{is_space};
-ghost use Rattle.lk_expr_text.specs.TokenFronts.{behind_spaces, behind_tokens, first_kind, is_unread, kinds_in};
+ghost use Rattle.lk_expr_text.specs.TokenKinds.{token_byte};
+ghost use Rattle.lk_expr_text.specs.TokenFronts.{IsSpelledThen, IsStuck, IsUnspaced, behind_spaces, behind_tokens, first_kind, is_unread, kinds_in};
 
 use crate::kind::{kind_byte, token_kind};
 use crate::lexer::{first_token, is_number};
@@ -82,3 +84,14 @@ pub fn is_unread(text: &[u8]) -> bool
     let (number, _) = text.split_at(UnsignedNumbers.length(text));
     !number.is_empty() && !is_number(number)
 }
+
+/// Each text is some tokens, and then what no token and no space begins. `kinds_in` gives the kinds of these tokens,
+/// and `behind_tokens` what is behind as many tokens as there are kinds. A law: it computes nothing.
+pub fn kinds_are_those_of_tokens()
+    ensures some { (text : List ℕ) → (ts : List Token) × IsSpelledThen (length text) (IsStuck (length text)) ts text }
+    ensures kinds { (text : List ℕ) (ts : List Token) → IsSpelledThen (length text) (IsStuck (length text)) ts text
+        → kinds_in text ≡ map token_byte ts }
+    ensures behind { (text rest : List ℕ) (ts : List Token) (kinds : List ℕ) → length kinds ≡ length ts
+        → IsUnspaced rest → IsSpelledThen (length text) (λ r. r ≡ rest) ts text
+        → behind_tokens (length text) kinds text ≡ rest }
+{}

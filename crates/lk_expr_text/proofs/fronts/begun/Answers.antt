@@ -2,6 +2,7 @@ use Rattle.std.proofs.Common.{◌≡◌, ◌∙◌, sym, false, Some, None, subs
 use Rattle.std.proofs.lemmas.Result.{IfOk-weaker}
 use Rattle.lk_grammar.specs.Forms.{IsText}
 use Rattle.lk_grammar.specs.Places.{IsPlace}
+use Rattle.lk_expr_text.specs.declared.kind.TokenKind.TheVariants as kind
 use Rattle.lk_expr_text.specs.TokenFronts.{IsOfKind, is_unread}
 use Rattle.lk_expr_text.specs.KindForms.{kind_form}
 use Rattle.lk_expr_text.proofs.FrontLaws.{kind_live, form_placed, text_placed}
@@ -10,7 +11,7 @@ use Rattle.lk_expr_text.proofs.fronts.begun.Goals as goal
 pub returns-in-Some : goal.returns-in-Some
 returns-in-Some c =
     let e : kind_form c.args.kind ≡ Some c.in-Some.form = sym c.in_ok-form.ensures ∙ c.in-Some.is in
-    IfOk-weaker c.place_in.result (IsPlace (IsText c.in-Some.form) c.args.text.now) (λ n. is_unread c.args.text.now ≡ false → IsPlace (IsOfKind c.args.kind) c.args.text.now n)
+    IfOk-weaker c.place_in.result (IsPlace (IsText c.in-Some.form) c.args.text.now) (λ n. (c.args.kind ≡ kind.Number → is_unread c.args.text.now ≡ false) → IsPlace (IsOfKind c.args.kind) c.args.text.now n)
     (λ n h read. form_placed c.args.kind c.in-Some.form c.args.text.now n e read h)
     (c.place_in.ensures (kind_live c.args.kind c.in-Some.form e))
 
