@@ -1,15 +1,9 @@
 #!/bin/sh
 # Times `eval` of `${a} * 2 + ${b} > 100 AND ${s} LIKE '%x%'` on 1,000,000 rows, and a plain Rust program that evaluates the
 # same tree. A measurement, not a test: it builds a program in a folder of its own, which proves it first.
-top=$(cd "$(dirname "$0")/.." && pwd) || exit 1
-work=$(mktemp -d) || exit 1
-trap 'rm -rf "$work"' EXIT
-mkdir -p "$work/crates/timing/src" || exit 1
-for crate in lk_val lk_types lk_grammar lk_utf8 lk_time lk_expr_text lk_expr; do
-    cp -r "$top/crates/$crate" "$work/crates" || exit 1
-done
-grep -E '^(lk_val|lk_types|lk_grammar|lk_utf8|lk_time|lk_expr_text|lk_expr):' "$top/crates.txt" >"$work/crates.txt"
-echo 'timing: lk_val lk_types lk_expr' >>"$work/crates.txt"
+crates='lk_val lk_types lk_grammar lk_utf8 lk_time lk_expr_text lk_expr'
+uses='lk_val lk_types lk_expr'
+. "$(dirname "$0")/workspace.sh"
 cat >"$work/crates/timing/src/main.rt" <<'END'
 //! Times `eval`.
 #![tactic(auto)]

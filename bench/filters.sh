@@ -1,15 +1,9 @@
 #!/bin/sh
 # Times `passes` on 1,000,000 values and filters of five tests, one kind of value after the other, and a plain Rust program
 # with the same tests. A measurement, not a test: it builds a program in a folder of its own, which proves it first.
-top=$(cd "$(dirname "$0")/.." && pwd) || exit 1
-work=$(mktemp -d) || exit 1
-trap 'rm -rf "$work"' EXIT
-mkdir -p "$work/crates/timing/src" || exit 1
-for crate in lk_val lk_types lk_grammar lk_filter_number lk_filter_text lk_filter_date lk_filter; do
-    cp -r "$top/crates/$crate" "$work/crates" || exit 1
-done
-grep -E '^(lk_val|lk_types|lk_grammar|lk_filter|lk_filter_number|lk_filter_text|lk_filter_date):' "$top/crates.txt" >"$work/crates.txt"
-echo 'timing: lk_val lk_types lk_filter' >>"$work/crates.txt"
+crates='lk_val lk_types lk_grammar lk_filter_number lk_filter_text lk_filter_date lk_filter'
+uses='lk_val lk_types lk_filter'
+. "$(dirname "$0")/workspace.sh"
 cat >"$work/crates/timing/src/main.rt" <<'END'
 //! Times `passes`.
 #![tactic(auto)]

@@ -1,11 +1,9 @@
 #!/bin/sh
 # Times `judge` on refused texts of 4,096 bytes of the number filters' grammar. A measurement, not a test: it builds a program
 # in a folder of its own, which proves it first.
-top=$(cd "$(dirname "$0")/.." && pwd) || exit 1
-work=$(mktemp -d) || exit 1
-trap 'rm -rf "$work"' EXIT
-mkdir -p "$work/crates/timing/src" && cp -r "$top/crates/lk_val" "$top/crates/lk_grammar" "$work/crates" || exit 1
-printf 'lk_val:\nlk_grammar: lk_val\ntiming: lk_val lk_grammar\n' >"$work/crates.txt"
+crates='lk_val lk_grammar'
+uses='lk_val lk_grammar'
+. "$(dirname "$0")/workspace.sh"
 sed 's/use crate::Form/use lk_grammar::Form/' "$top/crates/lk_grammar/src/tests/numbers.rt" >"$work/crates/timing/src/numbers.rt"
 cat >"$work/crates/timing/src/main.rt" <<'END'
 //! Times `judge`.

@@ -1,11 +1,9 @@
 #!/bin/sh
 # Times `read_file` and `print_tree` on a model of 20 MB, and serde_json's reader on a JSON text of that size, in one run. A
 # measurement, not a test: it builds a program in a folder of its own, which proves it first.
-top=$(cd "$(dirname "$0")/.." && pwd) || exit 1
-work=$(mktemp -d) || exit 1
-trap 'rm -rf "$work"' EXIT
-mkdir -p "$work/crates/timing/src" && cp -r "$top/crates/lk_val" "$top/crates/lk_read" "$work/crates" || exit 1
-printf 'lk_val:\nlk_read: lk_val\ntiming: lk_val lk_read json serde_json\n' >"$work/crates.txt"
+crates='lk_val lk_utf8 lk_read'
+uses='lk_val lk_read json serde_json'
+. "$(dirname "$0")/workspace.sh"
 cat >"$work/crates/timing/src/main.rt" <<'END'
 //! Times `read_file`, `print_tree` and serde_json.
 #![tactic(auto)]
