@@ -29,10 +29,10 @@ use Rattle.lk_types.specs.declared.answer.GivenRow.{GivenRow}
 use Rattle.lk_types.specs.declared.answer.GroupRow.{GroupRow}
 use Rattle.lk_types.specs.declared.answer.Answer.{Answer}
 use Rattle.lk_types.specs.declared.answer.Answer.TheVariants.{Table}
-use Rattle.lk_types.specs.Joins.{has_number}
-use Rattle.lk_types.specs.Rows.{tuple_of}
-use Rattle.lk_types.specs.Measures.{Entry, entry_at, no_entry, entries_of, groups_of, group_row, group_rows, measure_of, conflict_keys, conflicts_of}
-use Rattle.lk_types.specs.Answers.{measure_at, picked_measures, parts_of_measure, or_parts, query_components, first_each, key_value, given_row, given_rows, ops_of, component_cell, cell_within, frac_of_cell, or_calculated, measure_cell, line_cells, line_of, lines_of, passes_having, line_cmp, cut, answer_unless, answer_over, answer_of}
+use Rattle.lk_types.specs.Expressions.{has_number}
+use Rattle.lk_semantics.specs.Rows.{tuple_of}
+use Rattle.lk_semantics.specs.Measures.{Entry, entry_at, no_entry, entries_of, groups_of, group_row, group_rows, measure_of, conflict_keys, conflicts_of}
+use Rattle.lk_semantics.specs.Answers.{measure_at, picked_measures, parts_of_measure, or_parts, query_components, first_each, key_value, given_row, given_rows, ops_of, component_cell, cell_within, frac_of_cell, or_calculated, measure_cell, line_cells, line_of, lines_of, passes_having, line_cmp, cut, answer_unless, answer_over, answer_of}
 use Rattle.lk_answer.specs.Views.{explore_of, pick_of, bound_of, sources_of, op_of, answer_of_table}
 use Rattle.lk_answer.specs.Views as views
 use Rattle.lk_answer.proofs.ViewLaws.{joined, filter_all, all_pass, dims_are, measures_are, measure_is, dim_is, given, given_by}

@@ -5,8 +5,8 @@ use Rattle.std.specs.List.{position, position_or_len}
 use Rattle.std.proofs.lemmas.Bool.{false≢true, eqb-true, lt-ltb}
 use Rattle.std.proofs.lemmas.Map.Views.{any-filter_same}
 use Rattle.lk_val.specs.declared.cell.Cell.{Cell}
-use Rattle.lk_types.specs.Joins.{has_number}
-use Rattle.lk_types.specs.Answers.{first_each}
+use Rattle.lk_types.specs.Expressions.{has_number}
+use Rattle.lk_semantics.specs.Answers.{first_each}
 
 -- the place of a number that is one of the list, and what a function gives there
 pub record IsFound (m : ℕ) (ks : List ℕ) : Type 0 where

@@ -19,8 +19,8 @@ use Rattle.lk_val.specs.declared.cell.Cell.TheVariants as cell
 use Rattle.lk_val.proofs.SetLaws.{set_of-ascending}
 use Rattle.lk_types.specs.declared.explore.Op.{Op}
 use Rattle.lk_types.specs.declared.answer.Pair.{Pair}
-use Rattle.lk_types.specs.Measures.{Entry, pair_cmp, pair_of, pairs_of, has_key, has_other, conflict_keys, unless_counted, total, amount, measure_of, uses_key}
-use Rattle.lk_types.proofs.PairLaws.{pairs_ordered}
+use Rattle.lk_types.specs.PairOrder.{pair_cmp, pairs_ordered}
+use Rattle.lk_semantics.specs.Measures.{Entry, pair_of, pairs_of, has_key, has_other, conflict_keys, unless_counted, total, amount, measure_of, uses_key}
 use Rattle.lk_plain.specs.declared.explore.Measure.{Measure as ViewMeasure}
 use Rattle.lk_plain.specs.declared.explore.Op.{Op as ViewOp}
 use Rattle.lk_plain.specs.declared.explore.Op.TheVariants as view_op

@@ -11,10 +11,11 @@ use Rattle.lk_plain.specs.declared.explore.Pick.TheVariants as view_pick
 use Rattle.lk_plain.specs.declared.explore.Bound.{Bound as ViewBound}
 use Rattle.lk_plain.specs.Answers as view
 use Rattle.lk_plain.specs.Rows as view_rows
-use Rattle.lk_types.specs.Rows.{no_field, field_at, dim_value, shaped, visible_rows, passing_rows}
+use Rattle.lk_semantics.specs.Rows.{no_field, field_at, dim_value, visible_rows, passing_rows}
+use Rattle.lk_types.specs.Shapes.{shaped}
 use Rattle.lk_types.specs.Expressions.{value_of}
 use Rattle.lk_types.specs.declared.explore.Field.{Field}
-use Rattle.lk_types.specs.Answers.{no_measure, measure_at, dims_of, picked_measures, key_value}
+use Rattle.lk_semantics.specs.Answers.{no_measure, measure_at, dims_of, picked_measures, key_value}
 use Rattle.lk_types.specs.declared.rows.Joined.{Joined}
 use Rattle.lk_types.specs.declared.answer.KeyValue.{KeyValue}
 use Rattle.lk_answer.specs.Views.{field_of, measure_of, explore_of, pick_of, bound_of, sources_of}

@@ -5,7 +5,7 @@ use Rattle.std.specs.Ordering.{match_ordering}
 use Rattle.std.specs.declared.cmp.Ordering.{Ordering}
 use Rattle.lk_val.specs.declared.value.Value.{Value}
 use Rattle.lk_val.specs.declared.cell.Cell.{Cell}
-use Rattle.lk_types.specs.Measures.{Entry, entries_of, measure_of, conflict_keys}
+use Rattle.lk_semantics.specs.Measures.{Entry, entries_of, measure_of, conflict_keys}
 use Rattle.lk_types.specs.declared.explore.Op.{Op}
 use Rattle.lk_types.specs.declared.explore.Explore.{Explore}
 use Rattle.lk_types.specs.declared.answer.GivenRow.{GivenRow}

@@ -36,7 +36,7 @@ op_of view_op.Sum = op.Sum
 
 -- a measure adds up a column, or counts
 abbrev pub measure_of : ViewMeasure → Measure
-measure_of m = record { name = m.name; part = 0; op = op_of m.op; value = option_map (λ column. Column 0 column) m.value; key = None; filters = []; number = None }
+measure_of m = record { name = m.name; part = 0; op = op_of m.op; kind = kind.Number; value = option_map (λ column. Column 0 column) m.value; key = None; filters = []; number = None }
 
 -- the view alone, without a primary key
 abbrev pub explore_of : View → Explore

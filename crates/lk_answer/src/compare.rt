@@ -1,6 +1,6 @@
 ghost use Rattle.std.specs.Prelude.{◌≡◌};
 ghost use Rattle.lk_val.specs.Values.{value_cmp, tuple_cmp};
-ghost use Rattle.lk_types.specs.Measures.{pair_cmp};
+ghost use Rattle.lk_types.specs.PairOrder.{pair_cmp};
 
 use lk_types::Pair;
 use lk_val::{Tuple, Value, cmp_value};

@@ -1,7 +1,7 @@
 ghost use Rattle.std.specs.Prelude.{◌≡◌, ◌++◌, not, All, IfOk, OnOk, filter, map};
 ghost use Rattle.std.specs.List.{list_any};
 ghost use Rattle.lk_val.specs.Values.{is_same};
-ghost use Rattle.lk_types.specs.Measures.{conflict_keys, conflicts_of, has_other, pairs_of, uses_key};
+ghost use Rattle.lk_semantics.specs.Measures.{conflict_keys, conflicts_of, has_other, pairs_of, uses_key};
 ghost use Rattle.lk_answer.specs.Plain.{IsPlaced, IsPlacedRow, conflicts_from, conflicts_in};
 
 use crate::groups::groups_of;

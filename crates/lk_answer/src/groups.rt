@@ -1,5 +1,5 @@
 ghost use Rattle.std.specs.Prelude.{◌≡◌, All, IfOk, map};
-ghost use Rattle.lk_types.specs.Measures.{group_row, group_rows, groups_of};
+ghost use Rattle.lk_semantics.specs.Measures.{group_row, group_rows, groups_of};
 ghost use Rattle.lk_answer.specs.Plain.{IsPlacedRow, cells_from};
 
 use crate::compare::ByTuple;

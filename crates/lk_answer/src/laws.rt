@@ -1,6 +1,6 @@
 ghost use Rattle.std.specs.Prelude.{◌≡◌, List, All};
 ghost use Rattle.lk_val.specs.declared.value.Value.{Value};
-ghost use Rattle.lk_types.specs.Answers.{answer_of};
+ghost use Rattle.lk_semantics.specs.Answers.{answer_of};
 ghost use Rattle.lk_plain.specs.Answers.{IsPick, answer_of as view_answer_of};
 ghost use Rattle.lk_plain.specs.declared.explore.Explore.{Explore as View};
 ghost use Rattle.lk_plain.specs.declared.explore.Bound.{Bound as ViewBound};

@@ -2,7 +2,7 @@ ghost use Rattle.std.specs.Prelude.{◌≡◌, IfOk, length, map, take};
 ghost use Rattle.lk_val.specs.Cells.{cell_cmp};
 ghost use Rattle.lk_val.specs.Sets.{set_of};
 ghost use Rattle.lk_val.specs.Values.{tuple_cmp};
-ghost use Rattle.lk_types.specs.Answers.{cell_at, cells_cmp, cut, directed, line_cmp};
+ghost use Rattle.lk_semantics.specs.Answers.{cell_at, cells_cmp, cut, directed, line_cmp};
 
 use crate::compare::Compare;
 use crate::sets::set_of;

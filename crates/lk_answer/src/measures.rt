@@ -1,6 +1,6 @@
 ghost use Rattle.std.specs.Prelude.{◌≡◌, ◌<◌, ◌≤◌, ◌*◌, ◌^◌, All, IfOk, map, filter, not, length, pos, neg_ℤ, ◌≤ℤ◌, ◌<ℤ◌};
 ghost use Rattle.lk_val.specs.Values.{is_null};
-ghost use Rattle.lk_types.specs.Measures.{amount, average_cell, distinct_values, greater, greatest_of, known_count, least_of, lesser, measure_of, pairs_of, total, values_of_entries};
+ghost use Rattle.lk_semantics.specs.Measures.{amount, average_cell, distinct_values, greater, greatest_of, known_count, least_of, lesser, measure_of, pairs_of, total, values_of_entries};
 ghost use Rattle.lk_answer.specs.Plain.{IsPlaced};
 
 use crate::compare::ByValue;

@@ -1,6 +1,6 @@
 ghost use Rattle.std.specs.Prelude.{◌≡◌, ◌<◌, ◌^◌, not, All, IfOk, filter, map};
 ghost use Rattle.lk_val.specs.Values.{is_null, is_same_tuple};
-ghost use Rattle.lk_types.specs.Measures.{entries_of, entry_at, key_or_place, pair_of, pairs_of, unless_counted, has_key};
+ghost use Rattle.lk_semantics.specs.Measures.{entries_of, entry_at, key_or_place, pair_of, pairs_of, unless_counted, has_key};
 ghost use Rattle.lk_answer.specs.Plain.{IsPlaced, IsPlacedRow};
 
 use crate::compare::ByKey;

@@ -16,9 +16,9 @@ use Rattle.lk_types.specs.declared.schema.Frame.{Frame}
 use Rattle.lk_types.specs.declared.schema.Frame.TheVariants as frame
 use Rattle.lk_types.specs.declared.schema.Kind.{Kind}
 use Rattle.lk_types.specs.declared.schema.Kind.TheVariants as kind
-use Rattle.lk_expr.specs.Kinds.{no_kind, only, is_empty, shared, kinds_if, single, single_of, has_time, comparable, kinds_of_value, kind_at, kinds_of_column, kinds_framed, truth_if, number_if, text_if, kinds_of, kinds_of_all, kinds_of_cases, HasKinds}
-use Rattle.lk_expr.specs.declared.kind_set.KindSet.{KindSet}
-use Rattle.lk_expr.specs.declared.kinds.Leaves.{Leaves}
+use Rattle.lk_types.specs.Kinds.{no_kind, only, is_empty, shared, kinds_if, single, single_of, has_time, comparable, kinds_of_value, kind_at, kinds_of_column, kinds_framed, truth_if, number_if, text_if, kinds_of, kinds_of_all, kinds_of_cases, HasKinds}
+use Rattle.lk_types.specs.declared.kind_set.KindSet.{KindSet}
+use Rattle.lk_types.specs.declared.kind_set.Leaves.{Leaves}
 
 -- the set has no kind but the value's; for null it may be any set
 abbrev fits : KindSet → Value → Type 0

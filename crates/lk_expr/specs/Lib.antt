@@ -1,5 +1,3 @@
-pub mod Dates
-pub mod Kinds
 pub mod KindForms
 pub mod KindGrammar
 pub mod SyntaxPlaces

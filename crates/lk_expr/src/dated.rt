@@ -1,7 +1,7 @@
 ghost use Rattle.std.specs.Prelude.{◌≡◌};
 ghost use Rattle.std.specs.List.{list_all};
 ghost use Rattle.lk_types.specs.FormulaCode.{formula_of, formulas_of, cases_of};
-ghost use Rattle.lk_expr.specs.Dates.{is_dated, is_part_dated, is_row_dated, are_literals_dated, are_all_dated, are_cases_dated};
+ghost use Rattle.lk_types.specs.Dates.{is_dated, is_part_dated, is_row_dated, are_literals_dated, are_all_dated, are_cases_dated};
 
 use lk_time::is_in_years;
 use lk_types::{Args, Branches, Expr, Joined, Node};

@@ -3,7 +3,7 @@ ghost use Rattle.lk_val.specs.declared.value.Value.TheVariants as value;
 ghost use Rattle.lk_types.specs.FormulaCode.{formula_of, formulas_of, cases_of};
 ghost use Rattle.lk_types.specs.Expressions.{column_of, first_case, first_known, is_one_of, truth_of, value_of, value_of_truth, values_of};
 ghost use Rattle.lk_expr.specs.Operands.{is_test, operand_value};
-ghost use Rattle.lk_expr.specs.Dates.{are_literals_dated, are_all_dated, are_cases_dated, is_row_dated};
+ghost use Rattle.lk_types.specs.Dates.{are_literals_dated, are_all_dated, are_cases_dated, is_row_dated};
 
 use crate::arithmetic::{apply, negated};
 use crate::comparison::{compared, is_null, null_if};

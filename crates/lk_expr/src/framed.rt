@@ -2,7 +2,7 @@ ghost use Rattle.std.specs.Prelude.{◌≡◌, true, IfOk};
 ghost use Rattle.lk_types.specs.Timeframes.{timeframe_of};
 ghost use Rattle.lk_types.specs.declared.schema.Frame.TheVariants as frame;
 ghost use Rattle.lk_time.specs.FrameValues.{IsDay, IsInYears};
-ghost use Rattle.lk_expr.specs.Dates.{is_dated};
+ghost use Rattle.lk_types.specs.Dates.{is_dated};
 
 use lk_time::{day_name, frame, is_in_years};
 use lk_types::Frame;

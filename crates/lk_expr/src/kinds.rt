@@ -1,16 +1,9 @@
 ghost use Rattle.std.specs.Prelude.{◌≡◌, ◌↔◌, true, slice_get, IsErr, IfOk};
 ghost use Rattle.lk_types.specs.FormulaCode.{formula_of, formulas_of, cases_of};
-ghost use Rattle.lk_expr.specs.Kinds.{is_empty, single, kinds_of_value, kind_among, kind_at, kinds_of_column, kinds_framed, truth_if, number_if, text_if, kinds_of, do_all_compare, kinds_of_all, kinds_of_cases};
+ghost use Rattle.lk_types.specs.Kinds.{is_empty, single, kinds_of_value, kind_among, kind_at, kinds_of_column, kinds_framed, truth_if, number_if, text_if, kinds_of, do_all_compare, kinds_of_all, kinds_of_cases};
 
-use crate::kind_set::KindSet;
-use lk_types::{Args, Branches, Expr, Frame, Kind, Node};
-use lk_val::{Items, Value};
-
-/// The kinds of the columns of each part of a joined row.
-#[derive(Debug, Drop)]
-pub struct Leaves {
-    pub kinds: Items<Items<Kind>>,
-}
+use lk_types::{Args, Branches, Expr, Frame, Kind, KindSet, Leaves, Node};
+use lk_val::Value;
 
 /// Kinds clash in an expression: it has none. (lookd)
 #[derive(Clone, Copy, Debug, PartialEq, Eq)]

@@ -7,8 +7,8 @@ ghost use Rattle.lk_types.specs.Expressions.{value_of};
 ghost use Rattle.lk_types.specs.Tables.{is_of_kind};
 ghost use Rattle.lk_types.specs.declared.rows.Joined.{Joined};
 ghost use Rattle.lk_types.specs.declared.schema.Kind.{Kind};
-ghost use Rattle.lk_expr.specs.Kinds.{HasKinds, is_empty, kinds_of, single};
-ghost use Rattle.lk_expr.specs.declared.kinds.Leaves.{Leaves};
+ghost use Rattle.lk_types.specs.Kinds.{HasKinds, is_empty, kinds_of, single};
+ghost use Rattle.lk_types.specs.declared.kind_set.Leaves.{Leaves};
 
 /// On a row whose cells are null or of their columns' kinds, the value of an expression is null or of the
 /// expression's kind, and null where several kinds are left. A law: it computes nothing.

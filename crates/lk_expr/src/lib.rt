@@ -10,7 +10,6 @@ mod expr_forms;
 mod form_parts;
 mod framed;
 mod judging;
-mod kind_set;
 mod kinds;
 mod laws;
 mod like;
@@ -23,7 +22,8 @@ mod truth;
 
 pub use dated::{are_literals_dated, is_row_dated};
 pub use evaluation::eval;
-pub use kinds::{Clash, Leaves, kind_of};
+pub use kinds::{Clash, kind_of};
+pub use lk_types::Leaves;
 pub use laws::values_have_their_kinds;
 pub use like::{each_pattern_has_a_text, read_pattern};
 pub use reading::{ExprFault, read_expr, read_measure};

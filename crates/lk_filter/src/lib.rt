@@ -2,7 +2,6 @@
 #![tactic(auto)]
 
 mod comparing;
-mod copying;
 mod laws;
 mod meeting;
 mod model;

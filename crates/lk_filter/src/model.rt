@@ -1,10 +1,9 @@
 ghost use Rattle.std.specs.Prelude.{◌≡◌, IfOk, map};
 ghost use Rattle.lk_filter.specs.PlacedModel.{placed_field_filter, placed_measure, placed_rollup, placed_explore, placed_derived, placed_model};
 
-use crate::copying::{copy_all, copy_number, copy_plain, copy_schema, copy_some_expr};
 use crate::placing::place;
-use lk_types::{Derived, Explore, Filter, Measure, Model, NumExpr, Rollup};
-use lk_val::{Items, NoMemory};
+use lk_types::{Derived, Explore, Filter, Measure, Model, Rollup};
+use lk_val::{Copied, Items, NoMemory};
 use std::alloc::Global;
 
 /// The model at a moment: each filter of its explores, measures, aggregate tables and derived tables as `place`
@@ -13,10 +12,10 @@ pub fn place_model(alloc: Global, m: &Model, now: i64) -> Result<Model, NoMemory
     ensures { IfOk result (λ made. made ≡ placed_model now m.now) }
 {
     Ok(Model {
-        schema: copy_schema(alloc, &m.schema)?,
+        schema: m.schema.copied(alloc)?,
         explores: place_all(alloc, &m.explores, now)?,
         derived: place_all(alloc, &m.derived, now)?,
-        datagroups: copy_all(alloc, &m.datagroups)?,
+        datagroups: m.datagroups.copy(alloc)?,
     })
 }
 
@@ -60,14 +59,14 @@ impl Placed for Explore {
     fn placed(&self, alloc: Global, now: i64) -> Result<Explore, NoMemory> {
         Ok(Explore {
             name: self.name.copy(alloc)?,
-            parts: copy_all(alloc, &self.parts)?,
-            joins: copy_all(alloc, &self.joins)?,
-            fields: copy_all(alloc, &self.fields)?,
+            parts: self.parts.copy(alloc)?,
+            joins: self.joins.copy(alloc)?,
+            fields: self.fields.copy(alloc)?,
             measures: place_all(alloc, &self.measures, now)?,
-            always_join: copy_plain(alloc, &self.always_join)?,
+            always_join: self.always_join.copy_plain(alloc)?,
             always: place_all(alloc, &self.always, now)?,
-            always_where: copy_some_expr(alloc, &self.always_where)?,
-            access: copy_all(alloc, &self.access)?,
+            always_where: Copied::copied(&self.always_where, alloc)?,
+            access: self.access.copy(alloc)?,
             rollups: place_all(alloc, &self.rollups, now)?,
         })
     }
@@ -81,10 +80,11 @@ impl Placed for Measure {
             name: self.name.copy(alloc)?,
             part: self.part,
             op: self.op,
-            value: copy_some_expr(alloc, &self.value)?,
-            key: copy_some_expr(alloc, &self.key)?,
+            kind: self.kind,
+            value: Copied::copied(&self.value, alloc)?,
+            key: Copied::copied(&self.key, alloc)?,
             filters: place_all(alloc, &self.filters, now)?,
-            number: copy_some_number(alloc, &self.number)?,
+            number: Copied::copied(&self.number, alloc)?,
         })
     }
 }
@@ -95,8 +95,8 @@ impl Placed for Rollup {
     fn placed(&self, alloc: Global, now: i64) -> Result<Rollup, NoMemory> {
         Ok(Rollup {
             name: self.name.copy(alloc)?,
-            dims: copy_plain(alloc, &self.dims)?,
-            measures: copy_plain(alloc, &self.measures)?,
+            dims: self.dims.copy_plain(alloc)?,
+            measures: self.measures.copy_plain(alloc)?,
             filters: place_all(alloc, &self.filters, now)?,
             datagroup: self.datagroup,
         })
@@ -110,18 +110,9 @@ impl Placed for Derived {
         Ok(Derived {
             name: self.name.copy(alloc)?,
             explore: self.explore,
-            columns: copy_all(alloc, &self.columns)?,
+            columns: self.columns.copy(alloc)?,
             filters: place_all(alloc, &self.filters, now)?,
             datagroup: self.datagroup,
         })
     }
-}
-
-fn copy_some_number(alloc: Global, number: &Option<NumExpr>) -> Result<Option<NumExpr>, NoMemory>
-    ensures { IfOk result (λ made. made ≡ number.now) }
-{
-    Ok(match number {
-        None => None,
-        Some(number) => Some(copy_number(alloc, number)?),
-    })
 }

@@ -1,10 +1,9 @@
 ghost use Rattle.std.specs.Prelude.{◌≡◌, ◌<◌, ◌^◌, map, IfOk};
 ghost use Rattle.lk_types.specs.Filters.{placed, placed_test};
 
-use crate::copying::copy_test;
 use crate::unit::{days_of_units, today_at, unit_of};
 use lk_types::{Filter, Period, Test};
-use lk_val::{Items, NoMemory};
+use lk_val::{Copied, Items, NoMemory};
 use std::alloc::Global;
 
 /// The filter at a moment: each relative date becomes its span of days, cut at the years 1 to 9999. `now` counts
@@ -60,6 +59,6 @@ fn place_test(alloc: Global, test: &Test, today: u64) -> Result<Test, NoMemory>
                 (unit + 1).saturating_sub(back),
             ))
         }
-        _ => copy_test(alloc, test)?,
+        _ => test.copied(alloc)?,
     })
 }

@@ -3,7 +3,7 @@ use Rattle.std.proofs.Common.{◌≡◌, ap, List, ℕ}
 use Rattle.std.specs.Prelude.{All}
 use Rattle.std.proofs.lemmas.List.Elements.{recursion_from_All}
 use Rattle.lk_val.specs.declared.value.Value.{Value}
-use Rattle.lk_types.specs.Answers.{answer_of}
+use Rattle.lk_semantics.specs.Answers.{answer_of}
 use Rattle.lk_plain.specs.Answers as view
 use Rattle.lk_plain.specs.declared.explore.Explore.{Explore}
 use Rattle.lk_plain.specs.declared.explore.Bound.{Bound}

@@ -3,7 +3,7 @@ use Rattle.std.specs.Prelude.{ℕ, nat_le, ◌&&◌, if◌then◌else◌, List, 
 use Rattle.std.specs.List.{list_any}
 use Rattle.lk_val.specs.Texts.{is_same_text}
 use Rattle.lk_io.specs.declared.files.File.{File}
-use Rattle.lk_types.specs.Answers.{answer_of}
+use Rattle.lk_semantics.specs.Answers.{answer_of}
 use Rattle.lk_answer.specs.Views.{explore_of, bound_of, sources_of}
 use Rattle.lk_project.specs.declared.project.Project.{Project}
 use Rattle.lk_serve.specs.Asked.{fields_of}

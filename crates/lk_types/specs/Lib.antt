@@ -1,5 +1,6 @@
 pub mod Calendar
 pub mod Timeframes
+pub mod Shapes
 pub mod Printing
 pub mod Formula
 pub mod FormulaCode
@@ -8,14 +9,8 @@ pub mod CalculationCode
 pub mod Expressions
 pub mod Fitting
 pub mod Filters
-pub mod Joins
-pub mod Rows
-pub mod Measures
-pub mod Answers
-pub mod Derived
-pub mod Rollups
 pub mod Tables
-pub mod Isolation
-pub mod Shop
-pub mod SmallTables
-pub mod WrongDefinitions
+pub mod Dates
+pub mod Kinds
+pub mod PairOrder
+pub mod Samples

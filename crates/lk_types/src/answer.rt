@@ -1,4 +1,9 @@
-use lk_val::{Bytes, Cell, Items, Value};
+ghost use Rattle.std.specs.Prelude.{refl};
+ghost use Rattle.std.specs.Ordering.{as_partial_cmp};
+ghost use Rattle.lk_types.specs.PairOrder.{pair_cmp, is_same_pair, pairs_ordered, pairs_equivalent, pairs_equivalent_all, pairs_partial};
+
+use lk_val::{Bytes, Cell, Items, Value, cmp_value};
+use std::cmp::Ordering;
 
 /// What a row gives to a measure: a key, or none for the row's place, and a value. `counts` is false
 /// where the row does not pass the measure's filters.
@@ -18,11 +23,49 @@ pub struct GivenRow {
     pub cells: Items<KeyValue>,
 }
 
-/// A primary key and the value that stands with it.
+/// A primary key and the value that stands with it. Pairs are ordered by key, and then by value.
 #[derive(Debug, Drop)]
 pub struct Pair {
     pub key: Value,
     pub value: Value,
+}
+
+impl PartialEq for Pair {
+    ghost eq = { is_same_pair };
+
+    ghost laws = { pairs_equivalent };
+
+    fn eq(&self, other: &Pair) -> bool {
+        self.cmp(other) == Ordering::Equal
+    }
+}
+
+impl Eq for Pair {
+    ghost laws = { pairs_equivalent_all };
+}
+
+impl PartialOrd for Pair {
+    ghost partial_cmp = { as_partial_cmp pair_cmp };
+
+    ghost laws = { pairs_partial };
+
+    fn partial_cmp(&self, other: &Pair) -> Option<Ordering> {
+        Some(self.cmp(other))
+    }
+}
+
+impl Ord for Pair {
+    ghost cmp = { pair_cmp };
+
+    ghost total = { pairs_ordered.total };
+
+    ghost matches_partial_cmp = { λ x y. refl };
+
+    ghost matches_eq = { λ x y. refl };
+
+    fn cmp(&self, other: &Pair) -> Ordering {
+        cmp_value(&self.key, &other.key).then(cmp_value(&self.value, &other.value))
+    }
 }
 
 /// A group with a cell for each measure.

@@ -4,10 +4,12 @@
 mod answer;
 mod bound;
 mod calendar;
+mod copying;
 mod examples;
 mod explore;
 mod expr;
 mod filter;
+mod kind_set;
 mod laws;
 mod model;
 mod number;
@@ -19,21 +21,14 @@ mod schema;
 pub use answer::{Answer, GivenRow, GroupRow, KeyValue, Pair, Partial, Reply, Route, RouteFrom};
 pub use bound::{Bound, Plan, Query, Sort};
 pub use calendar::{day_of_moment, from_year_one, month_of, month_start, year_of, year_start};
-pub use examples::{
-    conflicts_are_of_visible_rows, derived_tables_are_answers, expressions_are_computed,
-    filters_pass_values, rollups_fit_and_regroup, shop_filters_and_sorts_apply,
-    shop_queries_are_answered, tables_are_joined, timeframes_are_computed,
-    wrong_definitions_differ,
-};
+pub use examples::{expressions_are_computed, filters_pass_values, timeframes_are_computed};
 pub use explore::{
     Explore, Field, Join, JoinKind, Measure, Op, Origin, Part, Relation, Rollup, Shape,
 };
 pub use expr::{Args, Arithmetic, Branches, Comparison, Expr, Node, Piece};
 pub use filter::{Days, Edge, End, Filter, Period, Test};
-pub use laws::{
-    answers_are_isolated, determined_views_are_least, each_row_has_one_group,
-    expressions_read_what_they_mention, needed_joins_are_least, pairs_are_a_set,
-};
+pub use kind_set::{KindSet, Leaves};
+pub use laws::expressions_read_what_they_mention;
 pub use model::{Datagroup, Derived, Model, Pick, Trigger};
 pub use number::{NumArgs, NumExpr, NumNode};
 pub use pattern::matches;

@@ -3,6 +3,7 @@
 
 mod bytes;
 mod cell;
+mod copied;
 mod distinct;
 mod divisor;
 mod fault;
@@ -20,6 +21,7 @@ mod value;
 
 pub use bytes::Bytes;
 pub use cell::{Cell, cmp_cell};
+pub use copied::Copied;
 pub use distinct::do_differ;
 pub use fault::{FaultLine, ModelFault};
 pub use frac::Frac;

@@ -65,6 +65,7 @@ fn measure(alloc: Global) -> Result<Measure, NoMemory> {
         name: name(alloc, "orders.count_today")?,
         part: 0,
         op: Op::Count,
+        kind: Kind::Number,
         value: None,
         key: None,
         filters: on_field(alloc, Test::Today)?,

@@ -1,6 +1,6 @@
 use Rattle.std.proofs.Common.{◌≡◌, ◌++◌, drop, map}
 use Rattle.std.specs.Prelude.{filter}
-use Rattle.lk_types.specs.Measures.{has_other}
+use Rattle.lk_semantics.specs.Measures.{has_other}
 use Rattle.lk_answer.proofs.conflicts.add_keys.Given as goal
 
 abbrev pub invariant-loop-pair : goal.invariant-loop-pair

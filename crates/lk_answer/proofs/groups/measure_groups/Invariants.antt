@@ -1,5 +1,5 @@
 use Rattle.std.proofs.Common.{◌≡◌, ◌++◌, drop, map}
-use Rattle.lk_types.specs.Measures.{group_row}
+use Rattle.lk_semantics.specs.Measures.{group_row}
 use Rattle.lk_answer.proofs.groups.measure_groups.Given as goal
 
 abbrev pub invariant-loop-group : goal.invariant-loop-group

@@ -1,5 +1,5 @@
 use Rattle.std.proofs.Common.{◌≡◌, drop}
-use Rattle.lk_types.specs.Answers.{cells_cmp}
+use Rattle.lk_semantics.specs.Answers.{cells_cmp}
 use Rattle.lk_answer.proofs.lines.by_sorts.Given as goal
 
 abbrev pub invariant-loop-sort : goal.invariant-loop-sort

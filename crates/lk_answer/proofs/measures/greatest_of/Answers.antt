@@ -1,7 +1,7 @@
 use Rattle.std.proofs.Common.{◌≡◌, ◌∙◌, ap, sym, List, [], ◌∷◌, refl}
 use Rattle.lk_val.specs.declared.value.Value.{Value}
 use Rattle.lk_val.specs.declared.value.Value.TheVariants.{Null}
-use Rattle.lk_types.specs.Measures.{greater, greatest_of}
+use Rattle.lk_semantics.specs.Measures.{greater, greatest_of}
 use Rattle.lk_answer.proofs.ValueLemmas.{taken_into, taken_into-last}
 use Rattle.lk_answer.proofs.measures.greatest_of.Goals as goal
 

@@ -1,5 +1,5 @@
 use Rattle.std.proofs.Common.{◌≡◌, length}
-use Rattle.lk_types.specs.Measures.{greater, greatest_of}
+use Rattle.lk_semantics.specs.Measures.{greater, greatest_of}
 use Rattle.lk_answer.proofs.ValueLemmas.{taken_into}
 use Rattle.lk_answer.proofs.measures.greatest_of.Given as goal
 

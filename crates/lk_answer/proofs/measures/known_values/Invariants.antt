@@ -1,7 +1,7 @@
 use Rattle.std.proofs.Common.{◌≡◌, ◌++◌, drop}
 use Rattle.std.specs.Prelude.{filter, not}
 use Rattle.lk_val.specs.Values.{is_null}
-use Rattle.lk_types.specs.Measures.{values_of_entries}
+use Rattle.lk_semantics.specs.Measures.{values_of_entries}
 use Rattle.lk_answer.proofs.measures.known_values.Given as goal
 
 abbrev pub invariant-loop-entry : goal.invariant-loop-entry

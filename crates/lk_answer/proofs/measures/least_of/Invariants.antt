@@ -1,5 +1,5 @@
 use Rattle.std.proofs.Common.{◌≡◌, length}
-use Rattle.lk_types.specs.Measures.{lesser, least_of}
+use Rattle.lk_semantics.specs.Measures.{lesser, least_of}
 use Rattle.lk_answer.proofs.ValueLemmas.{taken_into}
 use Rattle.lk_answer.proofs.measures.least_of.Given as goal
 

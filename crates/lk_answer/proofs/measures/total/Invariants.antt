@@ -1,6 +1,6 @@
 use Rattle.std.proofs.Common.{◌≡◌, ◌*◌, ◌^◌, drop, pos, ◌+ℤ◌, ◌≤ℤ◌}
 use Rattle.std.specs.Prelude.{neg_ℤ}
-use Rattle.lk_types.specs.Measures.{total}
+use Rattle.lk_semantics.specs.Measures.{total}
 use Rattle.lk_answer.proofs.measures.total.Given as goal
 
 abbrev pub invariant-loop-pair : goal.invariant-loop-pair

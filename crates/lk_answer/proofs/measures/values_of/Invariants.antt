@@ -1,5 +1,5 @@
 use Rattle.std.proofs.Common.{◌≡◌, ◌++◌, drop}
-use Rattle.lk_types.specs.Measures.{values_of_entries}
+use Rattle.lk_semantics.specs.Measures.{values_of_entries}
 use Rattle.lk_answer.proofs.measures.values_of.Given as goal
 
 abbrev pub invariant-loop-entry : goal.invariant-loop-entry

@@ -1,5 +1,5 @@
 use Rattle.std.proofs.Common.{◌≡◌, ◌++◌, drop, All}
-use Rattle.lk_types.specs.Measures.{entries_of}
+use Rattle.lk_semantics.specs.Measures.{entries_of}
 use Rattle.lk_answer.specs.Plain.{IsPlaced, IsPlacedRow}
 use Rattle.lk_answer.proofs.pairs.entries_of.Given as goal
 

@@ -1,6 +1,6 @@
 use Rattle.std.proofs.Common.{◌≡◌, ◌++◌, drop, map}
 use Rattle.std.specs.Prelude.{filter}
-use Rattle.lk_types.specs.Measures.{has_key, pair_of}
+use Rattle.lk_semantics.specs.Measures.{has_key, pair_of}
 use Rattle.lk_answer.proofs.pairs.given_pairs.Given as goal
 
 abbrev pub invariant-loop-entry : goal.invariant-loop-entry

@@ -1,7 +1,7 @@
 use Rattle.std.proofs.Common.{◌≡◌, true, subst, sym, ◌∙◌}
 use Rattle.lk_val.specs.declared.value.Value.{Value}
 use Rattle.lk_types.specs.FormulaCode.{formula_of}
-use Rattle.lk_expr.specs.Dates.{is_dated}
+use Rattle.lk_types.specs.Dates.{is_dated}
 use Rattle.lk_expr.proofs.DateLaws.{value_of-dated}
 use Rattle.lk_expr.proofs.evaluation.+eval.Goals as goal
 

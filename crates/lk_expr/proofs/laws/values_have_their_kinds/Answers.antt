@@ -1,5 +1,5 @@
 use Rattle.lk_types.specs.Expressions.{value_of}
-use Rattle.lk_expr.specs.Kinds.{kinds_of}
+use Rattle.lk_types.specs.Kinds.{kinds_of}
 use Rattle.lk_expr.proofs.KindLaws.{value_of-fits, of_single, of_several}
 use Rattle.lk_expr.proofs.laws.values_have_their_kinds.Goals as goal
 

@@ -1,0 +1,5 @@
+pub mod JoinLaws
+pub mod StandingLaws
+pub mod IsolationLaws
+pub mod PairLaws
+pub mod GroupLaws

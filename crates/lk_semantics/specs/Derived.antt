@@ -1,0 +1,100 @@
+-- Which parts a query reads, and the rows of derived tables.
+use Rattle.std.specs.Prelude.{ℕ, zero, suc, ◌*◌, not, if◌then◌else◌, pos, List, [], ◌∷◌, ◌++◌, map, filter, flat_map, length, slice_index_or, None, false}
+use Rattle.lk_val.specs.Rounding.{number_of, num_of_fraction}
+use Rattle.lk_val.specs.declared.value.Value.{Value}
+use Rattle.lk_val.specs.declared.cell.Cell.{Cell}
+use Rattle.lk_val.specs.declared.cell.Cell.TheVariants as cell
+use Rattle.lk_types.specs.Expressions.{mentions, value_of_num, has_number}
+use Rattle.lk_types.specs.Tables.{Rows}
+use Rattle.lk_semantics.specs.Joins.{needed_joins, joined_rows, mentions_of}
+use Rattle.lk_types.specs.declared.rows.Sources.{Sources}
+use Rattle.lk_semantics.specs.Rows.{field_at, passing_rows}
+use Rattle.lk_semantics.specs.Measures.{uses_key}
+use Rattle.lk_semantics.specs.Answers.{measure_at, key_of, dims_of, picked_measures, filtered, components_of, query_components, rows_grouped, lines_of}
+use Rattle.lk_types.specs.declared.filter.Filter.{Filter}
+use Rattle.lk_types.specs.declared.explore.Explore.{Explore}
+use Rattle.lk_types.specs.declared.explore.Measure.{Measure}
+use Rattle.lk_types.specs.declared.model.Derived.{Derived}
+use Rattle.lk_types.specs.declared.model.Model.{Model}
+use Rattle.lk_types.specs.declared.bound.Bound.{Bound}
+use Rattle.lk_types.specs.declared.rows.Tables.{Tables}
+
+-- ---- the parts that a query reads
+
+-- the parts that a field's expression mentions
+abbrev pub field_parts : Explore → ℕ → List ℕ
+field_parts x f = mentions (field_at x f).expr
+
+-- the parts that a measure's key mentions, where its type uses one
+abbrev pub key_parts : Explore → Measure → List ℕ
+key_parts x m = if uses_key m.op then mentions_of (key_of x m) else []
+
+-- a measure's part, and those that its key, its value and its filters mention
+abbrev pub measure_parts : Explore → Measure → List ℕ
+measure_parts x m = (m.part ∷ key_parts x m) ++ mentions_of m.value ++ flat_map (field_parts x) (filtered m.filters)
+
+-- the parts that some fields and measures mention
+abbrev pub asked_parts : Explore → List ℕ → List ℕ → List ℕ
+asked_parts x fields measures = flat_map (field_parts x) fields ++ flat_map (λ m. measure_parts x (measure_at x m)) measures
+
+-- the joins of a query over these fields and measures: a `number` reads what its components read
+abbrev pub joins_for : Explore → List ℕ → List ℕ → List ℕ
+joins_for x fields measures = needed_joins x (asked_parts x fields (components_of x measures))
+
+-- ---- derived tables
+
+-- the explore past the end of a model's explores
+abbrev pub no_explore : Explore
+no_explore = record { name = []; parts = []; joins = []; fields = []; measures = []; always_join = []; always = []; always_where = None; access = []; rollups = [] }
+
+-- the explore of a number
+abbrev pub explore_at : Model → ℕ → Explore
+explore_at m x = slice_index_or m.explores x no_explore
+
+-- the filters, and the explore's `always_filter` on the fields that they leave out
+abbrev pub with_always : Explore → List (ℕ × Filter) → List (ℕ × Filter)
+with_always x filters = filters ++ filter (λ f. not (has_number f.0 (filtered filters))) x.always
+
+-- the query of a derived table: no access filters, no sorts, and no limit that its rows reach
+abbrev pub derived_query : Explore → Derived → Bound
+derived_query x d =
+    let picks = map (λ c. c.1) d.columns in
+    let rows = with_always x d.filters in
+    record {
+      explore = d.explore;
+      picks = picks;
+      joins = joins_for x (dims_of picks ++ filtered rows) (picked_measures picks);
+      access = [];
+      rows = rows;
+      having = [];
+      sorts = [];
+      limit = 0;
+      fresh = false;
+      csv = false;
+    }
+
+-- a cell as a value: rounded to four places, and null where it is out of range
+abbrev pub value_of_cell : Cell → Value
+value_of_cell (cell.Value v) = v
+value_of_cell (cell.Count n) = value_of_num (number_of (pos (10000 * n)))
+value_of_cell (cell.Sum s) = value_of_num (number_of s)
+value_of_cell (cell.Frac f) = value_of_num (num_of_fraction f)
+
+-- the rows of a query's answer before the cut, as rows of a table
+abbrev pub answer_rows : Explore → Sources → Bound → Rows
+answer_rows x s b =
+    map (λ line. map value_of_cell line.cells)
+    (lines_of x b (rows_grouped x (dims_of b.picks) (query_components x b) (passing_rows x b.rows (joined_rows x s b.joins))))
+
+-- the rows of a derived table over the tables that it reads
+abbrev pub derived_rows : Model → Sources → Derived → Rows
+derived_rows m s d = answer_rows (explore_at m d.explore) s (derived_query (explore_at m d.explore) d)
+
+-- the derived tables that read derived tables through at most n others
+abbrev pub derived_within : Model → List Rows → ℕ → List Rows
+derived_within m stored zero = []
+derived_within m stored (suc n) = map (derived_rows m (record { stored = stored; derived = derived_within m stored n })) m.derived
+
+-- the stored tables and the derived ones over them
+abbrev pub sources_of : Model → Tables → Sources
+sources_of m t = record { stored = t.tables; derived = derived_within m t.tables (length m.derived) }

@@ -1,0 +1,10 @@
+pub mod Joins
+pub mod Rows
+pub mod Measures
+pub mod Answers
+pub mod Derived
+pub mod Rollups
+pub mod Isolation
+pub mod Shop
+pub mod SmallTables
+pub mod WrongDefinitions

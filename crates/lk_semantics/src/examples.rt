@@ -1,0 +1,145 @@
+ghost use Rattle.std.specs.Prelude.{◌≡◌, ◌∷◌, ◌++◌, [], true, false, pos, length, codes, Some, None, option_and_then};
+ghost use Rattle.lk_val.specs.declared.cell.Cell.TheVariants as cell;
+ghost use Rattle.lk_val.specs.declared.value.Value.TheVariants as value;
+ghost use Rattle.lk_val.specs.Fractions.{frac_add, frac_div, frac_of_sum, frac_of_count};
+ghost use Rattle.lk_types.specs.Expressions.{value_of};
+ghost use Rattle.lk_semantics.specs.Joins.{joined_rows, is_fanned};
+ghost use Rattle.lk_semantics.specs.Rows.{passing_rows};
+ghost use Rattle.lk_semantics.specs.Measures.{pairs_of, total, groups_of};
+ghost use Rattle.lk_semantics.specs.Answers.{answer_of, given_rows, measure_at};
+ghost use Rattle.lk_semantics.specs.Derived.{joins_for};
+ghost use Rattle.lk_semantics.specs.Rollups.{determined_views, fits, route_of, partials_of, may_be_stored, may_be_rolled_up, merged, cell_of_partial};
+ghost use Rattle.lk_types.specs.Tables.{is_valid_table};
+ghost use Rattle.lk_semantics.specs.Shop.{shop, other_shop, empty_shop, greatest_shop, shop_without_user, shop_model, users, users_def, orders_explore, orders_with, near_orders, not_far, order_without_user, per_order, greatest_total, by_day, by_price, query, query_of_ann, open_query, two_orders, of_status, at_least_100, whole, sum, dim, day, fraction_cell, kept, of_values};
+ghost use Rattle.lk_types.specs.Samples.{units, parts, word, only};
+ghost use Rattle.lk_semantics.specs.SmallTables.{one, both, two_tables, joined_as, regions_explore, regions_and_users, regions_shop};
+ghost use Rattle.lk_semantics.specs.WrongDefinitions.{given_entries, total_of_rows, is_not_false, groups_without_null, answer_over_all, conflicts_of_all};
+ghost use Rattle.lk_types.specs.declared.schema.Frame.TheVariants as frame;
+ghost use Rattle.lk_types.specs.declared.expr.Arithmetic.TheVariants as arithmetic;
+ghost use Rattle.lk_types.specs.declared.expr.Piece.TheVariants as piece;
+ghost use Rattle.lk_types.specs.declared.filter.Edge.TheVariants as edge;
+ghost use Rattle.lk_types.specs.declared.filter.Test.TheVariants as test;
+ghost use Rattle.lk_types.specs.declared.filter.Period.TheVariants as period;
+ghost use Rattle.lk_types.specs.declared.explore.JoinKind.TheVariants.{Left, Full, Inner, Cross};
+ghost use Rattle.lk_types.specs.declared.explore.Op.TheVariants as op;
+ghost use Rattle.lk_types.specs.declared.model.Pick.TheVariants.{Dim, Mea};
+ghost use Rattle.lk_types.specs.declared.answer.Answer.TheVariants.{Duplicate, Table};
+ghost use Rattle.lk_types.specs.declared.answer.RouteFrom.TheVariants as from;
+
+/// What the definition of an answer gives on the shop: totals and counts over fanned views, an exact average, a
+/// group of null, no rows, months, weeks, one caller's rows, and sums past the range of a value. A law: it computes nothing.
+pub fn shop_queries_are_answered()
+    ensures totals_once { answer_of orders_explore shop (query (Mea 1 ∷ Mea 4 ∷ []) (0 ∷ 1 ∷ []))
+        ≡ whole ((sum 1805000 ∷ cell.Count 3 ∷ []) ∷ []) }
+    ensures exact_average { answer_of orders_explore shop (query (Mea 2 ∷ []) (0 ∷ [])) ≡ whole ((fraction_cell 361 6 ∷ []) ∷ []) }
+    ensures by_price { answer_of orders_explore shop (query (Dim 10 ∷ Mea 1 ∷ []) (0 ∷ 1 ∷ []))
+        ≡ whole ((dim value.Null ∷ sum 305000 ∷ []) ∷ (dim (units 40) ∷ sum 1000000 ∷ [])
+        ∷ (dim (units 50) ∷ sum 500000 ∷ []) ∷ (dim (units 60) ∷ sum 1000000 ∷ []) ∷ []) }
+    ensures count_of_nothing { answer_of orders_explore empty_shop (query (Mea 0 ∷ []) (0 ∷ []))
+        ≡ whole ((cell.Count 0 ∷ []) ∷ []) }
+    ensures groups_of_nothing { answer_of orders_explore empty_shop (query (Dim 2 ∷ Mea 0 ∷ []) (0 ∷ [])) ≡ whole [] }
+    ensures by_month { answer_of orders_explore shop (query (Dim 5 ∷ Mea 0 ∷ []) (0 ∷ []))
+        ≡ whole ((day 19723 ∷ cell.Count 1 ∷ []) ∷ (day 19754 ∷ cell.Count 2 ∷ []) ∷ []) }
+    ensures by_week { answer_of orders_explore shop (query (Dim 4 ∷ Mea 0 ∷ []) (0 ∷ []))
+        ≡ whole ((day 19751 ∷ cell.Count 2 ∷ []) ∷ (day 19779 ∷ cell.Count 1 ∷ []) ∷ []) }
+    ensures for_one_caller { answer_of orders_explore shop (query_of_ann (Mea 1 ∷ []) (0 ∷ [])) ≡ whole ((sum 1500000 ∷ []) ∷ []) }
+    ensures past_a_value { answer_of orders_explore greatest_shop (query (Mea 1 ∷ []) (0 ∷ []))
+        ≡ whole ((sum 18446744073709551614 ∷ []) ∷ []) }
+{}
+
+/// What the definition gives for a calculated measure, a greatest value, a filter on a measure, a sort that cuts,
+/// a default filter that a query replaces, and a hidden condition. A law: it computes nothing.
+pub fn shop_filters_and_sorts_apply()
+    ensures per_order { answer_of (orders_with Left (per_order ∷ [])) shop (query (Mea 5 ∷ []) (0 ∷ []))
+        ≡ whole ((fraction_cell 361 6 ∷ []) ∷ []) }
+    ensures per_no_order { answer_of (orders_with Left (per_order ∷ [])) empty_shop (query (Mea 5 ∷ []) (0 ∷ []))
+        ≡ whole ((dim value.Null ∷ []) ∷ []) }
+    ensures greatest { answer_of (orders_with Left (greatest_total ∷ [])) shop (query (Mea 5 ∷ []) (0 ∷ []))
+        ≡ whole ((dim (units 100) ∷ []) ∷ []) }
+    ensures large_totals { answer_of orders_explore shop (record (query (Dim 2 ∷ Mea 1 ∷ []) (0 ∷ [])) { having = at_least_100 })
+        ≡ whole ((dim (word (codes "complete")) ∷ sum 1305000 ∷ []) ∷ []) }
+    ensures first_by_total { answer_of orders_explore shop (record (query (Dim 2 ∷ Mea 1 ∷ []) (0 ∷ [])) { sorts = record { place = 1; down = false } ∷ []; limit = 1 })
+        ≡ Table ((dim (word (codes "open")) ∷ sum 500000 ∷ []) ∷ []) false }
+    ensures complete_orders { answer_of orders_explore shop (record (query (Mea 0 ∷ []) (0 ∷ [])) { rows = of_status (codes "complete") })
+        ≡ whole ((cell.Count 2 ∷ []) ∷ []) }
+    ensures unknown_does_not_pass { answer_of near_orders shop_without_user (query (Mea 0 ∷ []) (0 ∷ []))
+        ≡ whole ((cell.Count 3 ∷ []) ∷ []) }
+{}
+
+/// A key with two values in a group refuses the query, and only where the caller sees both. A law: it computes nothing.
+pub fn conflicts_are_of_visible_rows()
+    ensures two_prices { answer_of orders_explore shop (query (Mea 3 ∷ []) (0 ∷ 1 ∷ [])) ≡ Duplicate 3 (units 10) }
+    ensures filtered_prices { answer_of orders_explore shop (record (query (Mea 3 ∷ []) (0 ∷ 1 ∷ [])) { rows = two_orders })
+        ≡ whole ((sum 500000 ∷ []) ∷ []) }
+    ensures seen { answer_of orders_explore other_shop (query_of_ann (Mea 3 ∷ []) (0 ∷ 1 ∷ [])) ≡ Duplicate 3 (units 10) }
+    ensures hidden { answer_of orders_explore other_shop (record (query_of_ann (Mea 3 ∷ []) (0 ∷ 1 ∷ [])) { rows = two_orders })
+        ≡ whole ((sum 500000 ∷ []) ∷ []) }
+{}
+
+/// The four kinds of join of two small tables, the joins that queries need, and the views that they fan out. A law: it computes nothing.
+pub fn tables_are_joined()
+    ensures inner { joined_rows (joined_as Inner) two_tables (0 ∷ []) ≡ both (Some (one 2)) (Some (one 2)) ∷ [] }
+    ensures left { joined_rows (joined_as Left) two_tables (0 ∷ [])
+        ≡ both (Some (one 1)) None ∷ both (Some (one 2)) (Some (one 2)) ∷ [] }
+    ensures full { joined_rows (joined_as Full) two_tables (0 ∷ [])
+        ≡ both (Some (one 1)) None ∷ both (Some (one 2)) (Some (one 2)) ∷ both None (Some (one 3)) ∷ [] }
+    ensures cross { joined_rows (joined_as Cross) two_tables (0 ∷ [])
+        ≡ both (Some (one 1)) (Some (one 2)) ∷ both (Some (one 1)) (Some (one 3))
+        ∷ both (Some (one 2)) (Some (one 2)) ∷ both (Some (one 2)) (Some (one 3)) ∷ [] }
+    ensures needed_of_totals { joins_for orders_explore (7 ∷ []) (1 ∷ 4 ∷ []) ≡ 0 ∷ 1 ∷ [] }
+    ensures needed_of_months { joins_for orders_explore (5 ∷ []) (1 ∷ []) ≡ [] }
+    ensures fanned_orders { is_fanned orders_explore (0 ∷ 1 ∷ []) 0 ≡ true }
+    ensures items_once { is_fanned orders_explore (0 ∷ 1 ∷ []) 2 ≡ false }
+{}
+
+/// The rows of a derived table, a query over it, and a join to it. A law: it computes nothing.
+pub fn derived_tables_are_answers()
+    ensures rows { regions_shop.derived
+        ≡ ((word (codes "EU") ∷ units 150 ∷ []) ∷ (word (codes "US") ∷ parts 305000 ∷ []) ∷ []) ∷ [] }
+    ensures totals { answer_of regions_explore regions_shop (open_query (Dim 0 ∷ Mea 0 ∷ []) [])
+        ≡ whole ((dim (word (codes "EU")) ∷ sum 1500000 ∷ []) ∷ (dim (word (codes "US")) ∷ sum 305000 ∷ []) ∷ []) }
+    ensures joined { answer_of regions_and_users regions_shop (open_query (Dim 0 ∷ Dim 1 ∷ []) (0 ∷ []))
+        ≡ whole ((dim (word (codes "EU")) ∷ dim (units 1) ∷ []) ∷ (dim (word (codes "US")) ∷ dim (units 2) ∷ []) ∷ []) }
+{}
+
+/// What the keys of orders and items determine, which rollups fit, how queries are routed, and what a rollup keeps. A law: it computes nothing.
+pub fn rollups_fit_and_regroup()
+    ensures of_orders { determined_views orders_explore (0 ∷ 1 ∷ []) 0 ≡ 0 ∷ 1 ∷ [] }
+    ensures of_items { determined_views orders_explore (0 ∷ 1 ∷ []) 2 ≡ 0 ∷ 1 ∷ 2 ∷ [] }
+    ensures by_price_total { fits orders_explore by_price (query (Dim 10 ∷ Mea 1 ∷ []) (0 ∷ 1 ∷ [])) ≡ false }
+    ensures same_dimensions { fits orders_explore by_price (query (Dim 7 ∷ Dim 10 ∷ Mea 1 ∷ []) (0 ∷ 1 ∷ [])) ≡ true }
+    ensures by_price_count { fits orders_explore by_price (query (Dim 10 ∷ Mea 4 ∷ []) (0 ∷ 1 ∷ [])) ≡ true }
+    ensures left_join { fits orders_explore by_day (open_query (Dim 5 ∷ Mea 1 ∷ []) []) ≡ true }
+    ensures inner_join { fits (orders_with Inner []) by_day (open_query (Dim 5 ∷ Mea 1 ∷ []) []) ≡ false }
+    ensures routed { route_of shop_model (0 ∷ []) 1 (query (Dim 5 ∷ Mea 1 ∷ []) (0 ∷ []))
+        ≡ record { number = 0; from = from.Rollup 0 } }
+    ensures fresh { route_of shop_model (0 ∷ []) 1 (record (query (Dim 5 ∷ Mea 1 ∷ []) (0 ∷ [])) { fresh = true })
+        ≡ record { number = 1; from = from.Current } }
+    ensures price_total_routed { route_of shop_model (0 ∷ []) 1 (query (Dim 10 ∷ Mea 1 ∷ []) (0 ∷ 1 ∷ []))
+        ≡ record { number = 1; from = from.Current } }
+    ensures kept_by_day { partials_of orders_explore shop by_day
+        ≡ kept (codes "EU") 19753 1000000 ∷ kept (codes "EU") 19754 500000 ∷ kept (codes "US") 19782 305000 ∷ [] }
+    ensures stored { may_be_rolled_up orders_explore by_price ≡ true }
+    ensures not_stored { may_be_stored orders_explore (0 ∷ 1 ∷ []) (measure_at orders_explore 3) ≡ false }
+    ensures average { cell_of_partial op.Average (merged (merged (of_values 1000000 1) (of_values 500000 1)) (of_values 405000 2))
+        ≡ fraction_cell 381 8 }
+    ensures average_of_averages { option_and_then (λ total. frac_div total (frac_of_count 3)) (option_and_then (frac_add (frac_of_sum (pos 202500)))
+        (frac_add (frac_of_sum (pos 1000000)) (frac_of_sum (pos 500000)))) ≡ Some (record { n = pos 227; d = pos 4 }) }
+    ensures valid_table { is_valid_table users_def users ≡ true }
+    ensures key_twice { is_valid_table users_def (users ++ users) ≡ false }
+{}
+
+/// What wrong definitions give on the shop beside the right ones: a total over joined rows, unknown taken as true,
+/// groups without null, and rows that the caller doesn't see. A law: it computes nothing.
+pub fn wrong_definitions_differ()
+    ensures over_rows { total_of_rows op.Sum (given_entries orders_explore (1 ∷ []) (joined_rows orders_explore shop (0 ∷ 1 ∷ []))) ≡ pos 2805000 }
+    ensures over_keys { total (pairs_of op.Sum (given_entries orders_explore (1 ∷ []) (joined_rows orders_explore shop (0 ∷ 1 ∷ [])))) ≡ pos 1805000 }
+    ensures unknown_is_not_false { is_not_false (value_of not_far (record { parts = Some order_without_user ∷ None ∷ None ∷ [] })) ≡ true }
+    ensures unknown_is_not_true { passing_rows near_orders [] (record { parts = Some order_without_user ∷ None ∷ None ∷ [] } ∷ []) ≡ [] }
+    ensures without_null { length (groups_without_null orders_explore (10 ∷ []) (joined_rows orders_explore shop (0 ∷ 1 ∷ []))) ≡ 3 }
+    ensures with_null { length (groups_of 1 (given_rows orders_explore (10 ∷ []) [] (joined_rows orders_explore shop (0 ∷ 1 ∷ [])))) ≡ 4 }
+    ensures unseen_rows { answer_over_all orders_explore shop (query_of_ann (Mea 1 ∷ []) (0 ∷ []))
+        ≡ whole ((sum 1805000 ∷ []) ∷ []) }
+    ensures unseen_conflict { conflicts_of_all orders_explore other_shop (record (query_of_ann (Mea 3 ∷ []) (0 ∷ 1 ∷ [])) { rows = two_orders }) (3 ∷ [])
+        ≡ (0, units 12) ∷ (0, units 12) ∷ [] }
+{}

@@ -1,0 +1,16 @@
+//! What a query over a resolved model means: joined rows, measures over distinct keys, answers, derived tables and
+//! aggregate tables, with laws and computed examples.
+#![tactic(auto)]
+
+mod examples;
+mod laws;
+
+pub use examples::{
+    conflicts_are_of_visible_rows, derived_tables_are_answers, rollups_fit_and_regroup,
+    shop_filters_and_sorts_apply, shop_queries_are_answered, tables_are_joined,
+    wrong_definitions_differ,
+};
+pub use laws::{
+    answers_are_isolated, determined_views_are_least, each_row_has_one_group,
+    needed_joins_are_least, pairs_are_a_set,
+};

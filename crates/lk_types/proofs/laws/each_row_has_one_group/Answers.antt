@@ -1,5 +1,0 @@
-use Rattle.lk_types.proofs.GroupLaws.{one_group}
-use Rattle.lk_types.proofs.laws.each_row_has_one_group.Goals as goal
-
-pub returns : goal.returns
-returns c = record { one = one_group }
