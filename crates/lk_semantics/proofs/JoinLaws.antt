@@ -10,7 +10,7 @@ use Rattle.lk_val.proofs.LeastLaws.{IsEquality, IsMonotone, IsKept, least_set-ke
 use Rattle.lk_types.specs.Formula.{Formula, Column, Literal, Framed, Not, And, Or, Compare, IsNull, In, Between, Like, Number, Negate, Concat, Lower, Upper, Case, Coalesce, NullIf}
 use Rattle.lk_types.specs.Expressions.{value_of, is_true, conjuncts, value_of_truth, and_of, truth_of, has_number}
 use Rattle.lk_types.specs.Tables.{Rows, Cells}
-use Rattle.lk_semantics.specs.Joins.{join_at, mentions_of, numbers_below, is_asked, needed_joins, brings_one_of, is_met, partners, with_part, left_joined, or_alone}
+use Rattle.lk_semantics.specs.Joins.{join_at, condition_of, mentions_of, numbers_below, is_asked, needed_joins, brings_one_of, is_met, partners, with_part, left_joined, or_alone}
 use Rattle.lk_types.specs.declared.rows.Joined.{Joined}
 use Rattle.lk_types.specs.declared.explore.Explore.{Explore}
 
@@ -26,7 +26,7 @@ or_second false b c f h = f h
 is_asked-monotone : (x : Explore) (parts : List ℕ) → IsMonotone numbers_equal (numbers_below (length x.joins)) (is_asked x parts)
 is_asked-monotone x parts s t within j h =
     or_second (brings_one_of parts j || has_number j x.always_join || brings_one_of (mentions_of x.always_where) j) _ _
-    (any_within numbers_equal (λ i. has_number j (join_at x i).required || brings_one_of (mentions_of (join_at x i).on) j) s t within) h
+    (any_within numbers_equal (λ i. has_number j (join_at x i).required || brings_one_of (mentions_of (condition_of (join_at x i))) j) s t within) h
 
 -- no further join is asked for
 pub needed_joins-kept : (x : Explore) (parts : List ℕ) → IsKept numbers_equal (numbers_below (length x.joins)) (is_asked x parts) (needed_joins x parts)

@@ -8,7 +8,7 @@ use Rattle.lk_val.proofs.LeastLaws.{IsEquality, IsMonotone, IsKept, least_set-ke
 use Rattle.lk_types.specs.Formula.{Formula, Compare}
 use Rattle.lk_types.specs.Expressions.{mentions}
 use Rattle.lk_semantics.specs.Joins.{join_at, numbers_below, mentions_of}
-use Rattle.lk_semantics.specs.Rollups.{Standing, determined, present, is_same_standing, is_determined_in, is_present_in, is_enforced_key, mentions_only, is_key_equation, has_key_equation, conjuncts_of, is_left, is_inner, finds_joined, finds_earlier, joins_view, has_full, stands, standings}
+use Rattle.lk_semantics.specs.Rollups.{Standing, determined, present, is_same_standing, is_determined_in, is_present_in, is_enforced_key, mentions_only, is_key_equation, has_key_equation, conjuncts_of, is_left, is_inner, finds_joined, finds_earlier, has_full, stands, standings}
 use Rattle.lk_types.specs.declared.explore.Explore.{Explore}
 use Rattle.lk_types.specs.declared.explore.Join.{Join}
 use Rattle.lk_types.specs.declared.expr.Comparison.TheVariants as comparison
@@ -77,12 +77,12 @@ module _ (x : Explore) where
   pub stands-monotone : (joins : List ℕ) (v : ℕ) → IsMonotone standings_equal (map determined (numbers_below (length x.parts)) ++ map present (numbers_below (length x.parts))) (stands x joins v)
   stands-monotone joins v s t within (determined w) h =
       or_implies (w == v) _ (w == v) _ (same (w == v))
-      (and_implies (not (has_full x joins) && joins_view joins w) _ (not (has_full x joins) && joins_view joins w) _ (same _)
+      (and_implies (not (has_full x joins)) _ (not (has_full x joins)) _ (same _)
       (any_implies (λ j. finds_joined x s w j || finds_earlier x s w j) (λ j. finds_joined x t w j || finds_earlier x t w j)
       (λ j. or_implies (finds_joined x s w j) (finds_earlier x s w j) (finds_joined x t w j) (finds_earlier x t w j) (finds_joined_implies s t within w j) (finds_earlier_implies s t within w j)) joins)) h
   stands-monotone joins v s t within (present w) h =
       or_implies (w == v) _ (w == v) _ (same (w == v))
-      (and_implies (not (has_full x joins) && joins_view joins w) _ (not (has_full x joins) && joins_view joins w) _ (same _)
+      (and_implies (not (has_full x joins)) _ (not (has_full x joins)) _ (same _)
       (any_implies (λ j. (finds_joined x s w j && is_inner (join_at x j).kind) || finds_earlier x s w j) (λ j. (finds_joined x t w j && is_inner (join_at x j).kind) || finds_earlier x t w j)
       (λ j. or_implies (finds_joined x s w j && is_inner (join_at x j).kind) (finds_earlier x s w j) (finds_joined x t w j && is_inner (join_at x j).kind) (finds_earlier x t w j)
       (and_implies (finds_joined x s w j) (is_inner (join_at x j).kind) (finds_joined x t w j) (is_inner (join_at x j).kind) (finds_joined_implies s t within w j) (same (is_inner (join_at x j).kind))) (finds_earlier_implies s t within w j)) joins)) h

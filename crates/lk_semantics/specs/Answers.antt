@@ -17,7 +17,7 @@ use Rattle.lk_types.specs.Filters.{passes, passes_frac}
 use Rattle.lk_semantics.specs.Joins.{part_at}
 use Rattle.lk_types.specs.declared.rows.Sources.{Sources}
 use Rattle.lk_semantics.specs.Rows.{tuple_of, passes_all, visible_rows, passing_rows}
-use Rattle.lk_semantics.specs.Measures.{uses_key, group_rows, conflicts_of}
+use Rattle.lk_semantics.specs.Measures.{uses_key, group_rows, first_conflict}
 use Rattle.lk_types.specs.declared.answer.GivenRow.{GivenRow}
 use Rattle.lk_types.specs.Formula.{Formula}
 use Rattle.lk_types.specs.Expressions.{value_of}
@@ -109,6 +109,16 @@ abbrev pub optional_value : Option Formula → Joined → Value
 optional_value None row = value.Null
 optional_value (Some e) row = value_of e row
 
+-- a type of measure computes with a value: a count and a `number` have none of their own
+abbrev pub takes_value : Op → Bool
+takes_value op.Count = false
+takes_value op.Number = false
+takes_value other = true
+
+-- the value that a measure computes with, whatever value is written at it
+abbrev pub value_taken : Measure → Option Formula
+value_taken m = if takes_value m.op then m.value else None
+
 -- the measure takes `sql_distinct_key` and no primary key
 abbrev pub has_own_key : Op → Bool
 has_own_key op.SumDistinct = true
@@ -137,7 +147,7 @@ is_placed o None = uses_key o
 abbrev pub key_value : Explore → Measure → Joined → KeyValue
 key_value x m row = record {
   key = option_map (λ e. value_of e row) (key_of x m);
-  value = optional_value m.value row;
+  value = optional_value (value_taken m) row;
   counts = passes_all x m.filters row && (not (is_placed m.op (key_of x m)) || has_part m.part row);
 }
 
@@ -158,9 +168,9 @@ ops_of x measures = map (λ m. (measure_at x m).op) measures
 abbrev pub rows_grouped : Explore → List ℕ → List ℕ → List Joined → List GroupRow
 rows_grouped x dims measures passing = group_rows (length dims) (ops_of x measures) (given_rows x dims measures passing)
 
--- the conflicts among the passing rows
-abbrev pub conflicts_among : Explore → List ℕ → List ℕ → List Joined → List (ℕ × Value)
-conflicts_among x dims measures passing = conflicts_of (length dims) (ops_of x measures) (given_rows x dims measures passing)
+-- the least conflict among the passing rows, if there is one
+abbrev pub conflict_among : Explore → List ℕ → List ℕ → List Joined → Option (ℕ × Value)
+conflict_among x dims measures passing = first_conflict (length dims) (ops_of x measures) (given_rows x dims measures passing)
 
 -- ---- `number` measures
 
@@ -288,14 +298,14 @@ cut limit lines = Table (map (λ line. line.cells) (take limit lines)) (nat_le (
 -- ---- answers
 
 -- the least conflict, by the number of its measure, or else the answer
-abbrev pub answer_unless : List ℕ → List (ℕ × Value) → Answer → Answer
-answer_unless measures [] answer = answer
-answer_unless measures (c ∷ cs) answer = Duplicate (slice_index measures c.0) c.1
+abbrev pub answer_unless : List ℕ → Option (ℕ × Value) → Answer → Answer
+answer_unless measures None answer = answer
+answer_unless measures (Some c) answer = Duplicate (slice_index measures c.0) c.1
 
 -- the answer over the rows that pass
 abbrev pub answer_over : Explore → Bound → List Joined → Answer
 answer_over x b passing =
-    answer_unless (query_components x b) (conflicts_among x (dims_of b.picks) (query_components x b) passing)
+    answer_unless (query_components x b) (conflict_among x (dims_of b.picks) (query_components x b) passing)
     (cut b.limit (lines_of x b (rows_grouped x (dims_of b.picks) (query_components x b) passing)))
 
 -- the answer of a bound query: it depends on the tables only through the visible rows

@@ -1,5 +1,7 @@
 -- Which parts a query reads, and the rows of derived tables.
 use Rattle.std.specs.Prelude.{ℕ, zero, suc, ◌*◌, not, if◌then◌else◌, pos, List, [], ◌∷◌, ◌++◌, map, filter, flat_map, length, slice_index_or, None, false}
+use Rattle.std.specs.Ordering.{nat_cmp, is_le}
+use Rattle.std.specs.Cmp.Lexicographic.{slice_cmp}
 use Rattle.lk_val.specs.Rounding.{number_of, num_of_fraction}
 use Rattle.lk_val.specs.declared.value.Value.{Value}
 use Rattle.lk_val.specs.declared.cell.Cell.{Cell}
@@ -10,10 +12,11 @@ use Rattle.lk_semantics.specs.Joins.{needed_joins, joined_rows, mentions_of}
 use Rattle.lk_types.specs.declared.rows.Sources.{Sources}
 use Rattle.lk_semantics.specs.Rows.{field_at, passing_rows}
 use Rattle.lk_semantics.specs.Measures.{uses_key}
-use Rattle.lk_semantics.specs.Answers.{measure_at, key_of, dims_of, picked_measures, filtered, components_of, query_components, rows_grouped, lines_of}
+use Rattle.lk_semantics.specs.Answers.{measure_at, value_taken, key_of, dims_of, picked_measures, filtered, components_of, query_components, rows_grouped, lines_of}
 use Rattle.lk_types.specs.declared.filter.Filter.{Filter}
 use Rattle.lk_types.specs.declared.explore.Explore.{Explore}
 use Rattle.lk_types.specs.declared.explore.Measure.{Measure}
+use Rattle.lk_types.specs.declared.model.Pick.{Pick}
 use Rattle.lk_types.specs.declared.model.Derived.{Derived}
 use Rattle.lk_types.specs.declared.model.Model.{Model}
 use Rattle.lk_types.specs.declared.bound.Bound.{Bound}
@@ -29,9 +32,9 @@ field_parts x f = mentions (field_at x f).expr
 abbrev pub key_parts : Explore → Measure → List ℕ
 key_parts x m = if uses_key m.op then mentions_of (key_of x m) else []
 
--- a measure's part, and those that its key, its value and its filters mention
+-- a measure's part, and those that its key, the value that it computes with and its filters mention
 abbrev pub measure_parts : Explore → Measure → List ℕ
-measure_parts x m = (m.part ∷ key_parts x m) ++ mentions_of m.value ++ flat_map (field_parts x) (filtered m.filters)
+measure_parts x m = (m.part ∷ key_parts x m) ++ mentions_of (value_taken m) ++ flat_map (field_parts x) (filtered m.filters)
 
 -- the parts that some fields and measures mention
 abbrev pub asked_parts : Explore → List ℕ → List ℕ → List ℕ
@@ -40,6 +43,10 @@ asked_parts x fields measures = flat_map (field_parts x) fields ++ flat_map (λ 
 -- the joins of a query over these fields and measures: a `number` reads what its components read
 abbrev pub joins_for : Explore → List ℕ → List ℕ → List ℕ
 joins_for x fields measures = needed_joins x (asked_parts x fields (components_of x measures))
+
+-- the joins of a query: of what it picks, and of what its filters on dimensions, its access filters and its filters on measures are on
+abbrev pub query_joins : Explore → List Pick → List (ℕ × Filter) → List (ℕ × Filter) → List (ℕ × Filter) → List ℕ
+query_joins x picks rows access having = joins_for x (dims_of picks ++ filtered rows ++ filtered access) (picked_measures picks ++ filtered having)
 
 -- ---- derived tables
 
@@ -51,9 +58,19 @@ no_explore = record { name = []; parts = []; joins = []; fields = []; measures =
 abbrev pub explore_at : Model → ℕ → Explore
 explore_at m x = slice_index_or m.explores x no_explore
 
--- the filters, and the explore's `always_filter` on the fields that they leave out
+-- a filter put before the first of some whose field's name does not come before that of its own
+abbrev pub put_by_name : Explore → ℕ × Filter → List (ℕ × Filter) → List (ℕ × Filter)
+put_by_name x f [] = f ∷ []
+put_by_name x f (g ∷ gs) = if is_le (slice_cmp nat_cmp (field_at x f.0).name (field_at x g.0).name) then f ∷ g ∷ gs else g ∷ put_by_name x f gs
+
+-- filters by the byte order of their fields' names; those on one field stay in their order
+abbrev pub by_name : Explore → List (ℕ × Filter) → List (ℕ × Filter)
+by_name x [] = []
+by_name x (f ∷ fs) = put_by_name x f (by_name x fs)
+
+-- the filters, and the explore's `always_filter` on the fields that they leave out, by their fields' names
 abbrev pub with_always : Explore → List (ℕ × Filter) → List (ℕ × Filter)
-with_always x filters = filters ++ filter (λ f. not (has_number f.0 (filtered filters))) x.always
+with_always x filters = by_name x (filters ++ filter (λ f. not (has_number f.0 (filtered filters))) x.always)
 
 -- the query of a derived table: no access filters, no sorts, and no limit that its rows reach
 abbrev pub derived_query : Explore → Derived → Bound
@@ -63,7 +80,7 @@ derived_query x d =
     record {
       explore = d.explore;
       picks = picks;
-      joins = joins_for x (dims_of picks ++ filtered rows) (picked_measures picks);
+      joins = query_joins x picks rows [] [];
       access = [];
       rows = rows;
       having = [];

@@ -85,7 +85,7 @@ abbrev pub amount : Value → ℤ
 amount (value.Num n) = n.0
 amount v = pos 0
 
--- the sum of the pairs' values, and how many are not null
+-- the sum of the pairs' values
 abbrev pub total : List Pair → ℤ
 total [] = pos 0
 total (p ∷ ps) = amount p.value +ℤ total ps
@@ -155,3 +155,12 @@ group_rows dims ops rows = map (group_row ops rows) (groups_of dims rows)
 abbrev pub conflicts_of : ℕ → List Op → List GivenRow → List (ℕ × Value)
 conflicts_of dims ops rows =
     flat_map (λ group. flat_map (λ c. map (λ key. (c.0, key)) (conflict_keys c.1 (entries_of c.0 rows group))) (enumerate_from 0 ops)) (groups_of dims rows)
+
+-- the first of a list, if it has one
+abbrev pub head_of : {A : Type 0} → List A → Option A
+head_of [] = None
+head_of (x ∷ xs) = Some x
+
+-- the least conflict, if there is one
+abbrev pub first_conflict : ℕ → List Op → List GivenRow → Option (ℕ × Value)
+first_conflict dims ops rows = head_of (conflicts_of dims ops rows)

@@ -15,13 +15,14 @@ use Rattle.lk_types.specs.declared.rows.Sources.{Sources}
 use Rattle.lk_semantics.specs.Rows.{field_at, passing_rows}
 use Rattle.lk_semantics.specs.Measures.{Entry, entries_of, groups_of, pairs_of, values_of_entries, total, known_count, average_cell, lesser, greater, least_of, greatest_of, distinct_values}
 use Rattle.lk_types.specs.declared.answer.GivenRow.{GivenRow}
-use Rattle.lk_semantics.specs.Answers.{measure_at, dims_of, filtered, components_of, query_components, given_rows, ops_of}
+use Rattle.lk_semantics.specs.Answers.{measure_at, value_taken, dims_of, filtered, components_of, query_components, given_rows, ops_of}
 use Rattle.lk_semantics.specs.Derived.{field_parts, joins_for, explore_at, derived_query}
 use Rattle.lk_types.specs.declared.rows.Joined.{Joined}
 use Rattle.lk_types.specs.declared.expr.Comparison.TheVariants as comparison
 use Rattle.lk_types.specs.declared.explore.Shape.{Shape}
 use Rattle.lk_types.specs.declared.explore.Shape.TheVariants as shape
 use Rattle.lk_types.specs.declared.explore.Explore.{Explore}
+use Rattle.lk_types.specs.declared.explore.Field.{Field}
 use Rattle.lk_types.specs.declared.explore.Origin.{Origin}
 use Rattle.lk_types.specs.declared.explore.Origin.TheVariants.{Stored, Derived as FromDerived}
 use Rattle.lk_types.specs.declared.explore.Join.{Join}
@@ -120,10 +121,6 @@ finds_earlier x known w j =
     is_present_in known (j + 1) && nat_lt w (j + 1) && (is_left (join_at x j).kind || is_inner (join_at x j).kind)
     && has_key_equation x (is_determined_in known) w (join_at x j)
 
--- the view is the base view or is brought by one of the joins
-abbrev pub joins_view : List ℕ → ℕ → Bool
-joins_view joins w = (w == 0) || list_any (λ j. w == j + 1) joins
-
 -- one of the joins is a full one
 abbrev pub has_full : Explore → List ℕ → Bool
 has_full x joins = list_any (λ j. is_full (join_at x j).kind) joins
@@ -131,9 +128,9 @@ has_full x joins = list_any (λ j. is_full (join_at x j).kind) joins
 -- the rules by which a view stands with the view v
 abbrev pub stands : Explore → List ℕ → ℕ → List Standing → Standing → Bool
 stands x joins v known (determined w) =
-    (w == v) || (not (has_full x joins) && joins_view joins w && list_any (λ j. finds_joined x known w j || finds_earlier x known w j) joins)
+    (w == v) || (not (has_full x joins) && list_any (λ j. finds_joined x known w j || finds_earlier x known w j) joins)
 stands x joins v known (present w) =
-    (w == v) || (not (has_full x joins) && joins_view joins w && list_any (λ j. (finds_joined x known w j && is_inner (join_at x j).kind) || finds_earlier x known w j) joins)
+    (w == v) || (not (has_full x joins) && list_any (λ j. (finds_joined x known w j && is_inner (join_at x j).kind) || finds_earlier x known w j) joins)
 
 -- what may be said of the views
 abbrev pub all_standings : Explore → List Standing
@@ -170,9 +167,13 @@ abbrev pub is_coarser : Shape → Shape → Bool
 is_coarser (shape.Frame g coarse) (shape.Frame h fine) = (g == h) && is_had_from coarse fine
 is_coarser s t = false
 
--- a dimension of the rollup is the field, or a finer timeframe of its group
+-- timeframes of one view's group, of which the first is had from the second
+abbrev pub is_had_of : Field → Field → Bool
+is_had_of f d = (f.part == d.part) && is_coarser f.shape d.shape
+
+-- a dimension of the rollup is the field, or a finer timeframe of its view's group
 abbrev pub has_field : Explore → Rollup → ℕ → Bool
-has_field x r f = list_any (λ d. (d == f) || is_coarser (field_at x f).shape (field_at x d).shape) r.dims
+has_field x r f = list_any (λ d. (d == f) || is_had_of (field_at x f) (field_at x d)) r.dims
 
 -- the rollup has each field that the query groups or filters by
 abbrev pub fields_fit : Explore → Rollup → Bound → Bool
@@ -190,11 +191,11 @@ measures_fit x r b = list_all (λ m. has_number m (components_of x r.measures)) 
 abbrev pub is_same_set : List ℕ → List ℕ → Bool
 is_same_set xs ys = list_all (λ n. has_number n ys) xs && list_all (λ n. has_number n xs) ys
 
--- all that the rollup's dimensions and the measure's value and filters mention is determined by the key of its view
+-- all that the rollup's dimensions, the value that the measure computes with and its filters mention is determined by the key of its view
 abbrev pub is_determined_by : Explore → Rollup → Measure → Bool
 is_determined_by x r m =
     list_all (λ p. has_number p (determined_views x (rollup_joins x r) m.part))
-    (flat_map (field_parts x) r.dims ++ mentions_of m.value ++ flat_map (field_parts x) (filtered m.filters))
+    (flat_map (field_parts x) r.dims ++ mentions_of (value_taken m) ++ flat_map (field_parts x) (filtered m.filters))
 
 -- its parts over finer groups give it over coarser ones: of a least or greatest value always, of a count, a sum or an average where each key lies in one group
 abbrev pub op_regroups : Op → Bool → Bool
@@ -243,7 +244,7 @@ op_stores Number keyed = false
 abbrev pub may_be_stored : Explore → List ℕ → Measure → Bool
 may_be_stored x joins m =
     op_stores m.op (is_some_number (part_at x m.part).enforced
-    && list_all (λ p. has_number p (determined_views x joins m.part)) (mentions_of m.value ++ flat_map (field_parts x) (filtered m.filters)))
+    && list_all (λ p. has_number p (determined_views x joins m.part)) (mentions_of (value_taken m) ++ flat_map (field_parts x) (filtered m.filters)))
 
 -- each component of a rollup's measures may stand in it
 abbrev pub may_be_rolled_up : Explore → Rollup → Bool
@@ -277,6 +278,10 @@ best_rollup x (r ∷ rs) = better x r (best_rollup x rs)
 abbrev pub no_derived : Derived
 no_derived = record { name = []; explore = 0; columns = []; filters = []; datagroup = None }
 
+-- the derived table of a number
+abbrev pub derived_at : Model → ℕ → Derived
+derived_at m d = slice_index_or m.derived d no_derived
+
 -- where the parts of an explore's joins come from
 abbrev pub origins_of : Explore → List ℕ → List Origin
 origins_of x joins = (part_at x 0).origin ∷ map (λ j. (part_at x (j + 1)).origin) joins
@@ -289,7 +294,7 @@ or_within deeper d (Some g) = g ∷ []
 -- the datagroups that a view's origin reaches
 abbrev pub datagroups_from : Model → (Derived → List ℕ) → Origin → List ℕ
 datagroups_from m deeper (Stored t) = []
-datagroups_from m deeper (FromDerived n) = let d = slice_index_or m.derived n no_derived in or_within deeper d d.datagroup
+datagroups_from m deeper (FromDerived n) = or_within deeper (derived_at m n) (derived_at m n).datagroup
 
 -- the datagroups of the persisted derived tables that a derived table reaches, through at most n others
 abbrev pub reached_by : Model → ℕ → Derived → List ℕ
@@ -297,7 +302,7 @@ reached_by m zero d = []
 reached_by m (suc n) d =
     flat_map (datagroups_from m (reached_by m n)) (origins_of (explore_at m d.explore) (derived_query (explore_at m d.explore) d).joins)
 
--- the datagroups of the persisted derived tables that the joins reach
+-- the datagroups of the first persisted derived tables that a query over the joins reaches: it reads no further than these
 abbrev pub reached_datagroups : Model → Explore → List ℕ → List ℕ
 reached_datagroups m x joins = flat_map (datagroups_from m (reached_by m (length m.derived))) (origins_of x joins)
 

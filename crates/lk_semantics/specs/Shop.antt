@@ -89,8 +89,9 @@ empty_shop = record { stored = [] ∷ [] ∷ [] ∷ []; derived = [] }
 abbrev pub plain : List ℕ → ℕ → Kind → ℕ → Field
 plain name part kind column = record { name = name; part = part; kind = kind; expr = Column part column; shape = shape.Plain }
 
+-- a timeframe of the moment at which an order was created: its first day, or a week's or a month's
 abbrev pub created : List ℕ → Shape → Field
-created name shape = record { name = name; part = 0; kind = kind.Moment; expr = Column 0 3; shape = shape }
+created name shape = record { name = name; part = 0; kind = kind.Day; expr = Column 0 3; shape = shape }
 
 -- 0 id, 1 user_id, 2 status, 3 created_date, 4 created_week, 5 created_month; 6 users.id, 7 users.region; 8 items.id, 9 items.order_id, 10 items.price
 abbrev pub fields : List Field
