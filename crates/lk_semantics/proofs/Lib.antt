@@ -3,3 +3,4 @@ pub mod StandingLaws
 pub mod IsolationLaws
 pub mod PairLaws
 pub mod GroupLaws
+pub mod ShopLaws

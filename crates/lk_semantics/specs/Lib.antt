@@ -4,7 +4,10 @@ pub mod Measures
 pub mod Answers
 pub mod Derived
 pub mod Rollups
+pub mod Reading
+pub mod Resolved
 pub mod Isolation
 pub mod Shop
 pub mod SmallTables
+pub mod Corners
 pub mod WrongDefinitions

@@ -41,7 +41,10 @@ use Rattle.lk_types.specs.declared.answer.Partial.{Partial}
 use Rattle.lk_types.specs.declared.answer.Answer.{Answer}
 use Rattle.lk_types.specs.declared.answer.Answer.TheVariants.{Table}
 use Rattle.lk_types.specs.declared.model.Model.{Model}
+use Rattle.lk_types.specs.declared.model.Datagroup.{Datagroup}
+use Rattle.lk_types.specs.declared.model.Trigger.TheVariants.{Today}
 use Rattle.lk_types.specs.declared.schema.TableDef.{TableDef}
+use Rattle.lk_types.specs.declared.schema.ColumnDef.{ColumnDef}
 
 -- ---- tables
 
@@ -169,11 +172,30 @@ not_far = Not (Compare comparison.Greater (Column 0 1) (Literal (units 1000)))
 abbrev pub near_orders : Explore
 near_orders = record orders_explore { always_where = Some not_far }
 
-abbrev pub shop_model : Model
-shop_model = record { schema = record { tables = [] }; explores = orders_explore ∷ []; derived = []; datagroups = [] }
+-- the columns of the tables
+abbrev pub column : List ℕ → Kind → ColumnDef
+column name kind = record { name = name; kind = kind }
 
 abbrev pub users_def : TableDef
-users_def = record { name = codes "users"; columns = record { name = codes "id"; kind = kind.Number } ∷ record { name = codes "region"; kind = kind.Text } ∷ []; key = Some 0 }
+users_def = record { name = codes "users"; columns = column (codes "id") kind.Number ∷ column (codes "region") kind.Text ∷ []; key = Some 0 }
+
+abbrev pub orders_def : TableDef
+orders_def = record {
+  name = codes "orders";
+  columns = column (codes "id") kind.Number ∷ column (codes "user_id") kind.Number ∷ column (codes "status") kind.Text
+      ∷ column (codes "created_at") kind.Moment ∷ column (codes "total") kind.Number ∷ [];
+  key = Some 0;
+}
+
+abbrev pub items_def : TableDef
+items_def = record { name = codes "items"; columns = column (codes "id") kind.Number ∷ column (codes "order_id") kind.Number ∷ column (codes "price") kind.Number ∷ []; key = Some 0 }
+
+-- a datagroup that is rebuilt each day
+abbrev pub nightly : Datagroup
+nightly = record { name = codes "nightly"; trigger = Some Today; interval = None }
+
+abbrev pub shop_model : Model
+shop_model = record { schema = record { tables = users_def ∷ orders_def ∷ items_def ∷ [] }; explores = orders_explore ∷ []; derived = []; datagroups = nightly ∷ [] }
 
 -- ---- queries
 

@@ -1,4 +1,4 @@
-ghost use Rattle.std.specs.Prelude.{◌≡◌, ◌∷◌, ◌++◌, [], true, false, pos, length, codes, Some, None, option_and_then};
+ghost use Rattle.std.specs.Prelude.{◌≡◌, ◌∷◌, ◌++◌, [], true, false, pos, map, length, codes, Some, None, option_and_then};
 ghost use Rattle.lk_val.specs.declared.cell.Cell.TheVariants as cell;
 ghost use Rattle.lk_val.specs.declared.value.Value.TheVariants as value;
 ghost use Rattle.lk_val.specs.Fractions.{frac_add, frac_div, frac_of_sum, frac_of_count};
@@ -7,10 +7,14 @@ ghost use Rattle.lk_semantics.specs.Joins.{joined_rows, is_fanned};
 ghost use Rattle.lk_semantics.specs.Rows.{passing_rows};
 ghost use Rattle.lk_semantics.specs.Measures.{pairs_of, total, groups_of};
 ghost use Rattle.lk_semantics.specs.Answers.{answer_of, given_rows, measure_at};
-ghost use Rattle.lk_semantics.specs.Derived.{joins_for};
-ghost use Rattle.lk_semantics.specs.Rollups.{determined_views, fits, route_of, partials_of, may_be_stored, may_be_rolled_up, merged, cell_of_partial};
+ghost use Rattle.lk_semantics.specs.Derived.{explore_at, joins_for, with_always};
+ghost use Rattle.lk_semantics.specs.Reading.{reached_tables, explore_datagroups, reads_itself, leaves_of};
+ghost use Rattle.lk_semantics.specs.Resolved.{IsResolved, is_typed_explore, are_one};
+ghost use Rattle.lk_semantics.specs.Corners.{count_with_value, cross_with_condition, with_default, buyers_and_sellers, by_buyers_day, chained, circular};
+ghost use Rattle.lk_semantics.specs.Rollups.{determined_views, has_field, reached_datagroups, fits, route_of, partials_of, may_be_stored, may_be_rolled_up, merged, cell_of_partial};
 ghost use Rattle.lk_types.specs.Tables.{is_valid_table};
-ghost use Rattle.lk_semantics.specs.Shop.{shop, other_shop, empty_shop, greatest_shop, shop_without_user, shop_model, users, users_def, orders_explore, orders_with, near_orders, not_far, order_without_user, per_order, greatest_total, by_day, by_price, query, query_of_ann, open_query, two_orders, of_status, at_least_100, whole, sum, dim, day, fraction_cell, kept, of_values};
+ghost use Rattle.lk_types.specs.Kinds.{kind_at};
+ghost use Rattle.lk_semantics.specs.Shop.{shop, other_shop, empty_shop, greatest_shop, shop_without_user, shop_model, items, items_def, orders_explore, orders_with, near_orders, not_far, order_without_user, per_order, greatest_total, by_day, by_price, query, query_of_ann, open_query, two_orders, of_status, at_least_100, whole, sum, dim, day, fraction_cell, kept, of_values};
 ghost use Rattle.lk_types.specs.Samples.{units, parts, word, only};
 ghost use Rattle.lk_semantics.specs.SmallTables.{one, both, two_tables, joined_as, regions_explore, regions_and_users, regions_shop};
 ghost use Rattle.lk_semantics.specs.WrongDefinitions.{given_entries, total_of_rows, is_not_false, groups_without_null, answer_over_all, conflicts_of_all};
@@ -21,6 +25,7 @@ ghost use Rattle.lk_types.specs.declared.filter.Edge.TheVariants as edge;
 ghost use Rattle.lk_types.specs.declared.filter.Test.TheVariants as test;
 ghost use Rattle.lk_types.specs.declared.filter.Period.TheVariants as period;
 ghost use Rattle.lk_types.specs.declared.explore.JoinKind.TheVariants.{Left, Full, Inner, Cross};
+ghost use Rattle.lk_types.specs.declared.schema.Kind.TheVariants as kind;
 ghost use Rattle.lk_types.specs.declared.explore.Op.TheVariants as op;
 ghost use Rattle.lk_types.specs.declared.model.Pick.TheVariants.{Dim, Mea};
 ghost use Rattle.lk_types.specs.declared.answer.Answer.TheVariants.{Duplicate, Table};
@@ -125,8 +130,8 @@ pub fn rollups_fit_and_regroup()
         ≡ fraction_cell 381 8 }
     ensures average_of_averages { option_and_then (λ total. frac_div total (frac_of_count 3)) (option_and_then (frac_add (frac_of_sum (pos 202500)))
         (frac_add (frac_of_sum (pos 1000000)) (frac_of_sum (pos 500000)))) ≡ Some (record { n = pos 227; d = pos 4 }) }
-    ensures valid_table { is_valid_table users_def users ≡ true }
-    ensures key_twice { is_valid_table users_def (users ++ users) ≡ false }
+    ensures valid_table { is_valid_table items_def items ≡ true }
+    ensures key_twice { is_valid_table items_def (items ++ items) ≡ false }
 {}
 
 /// What wrong definitions give on the shop beside the right ones: a total over joined rows, unknown taken as true,
@@ -142,4 +147,37 @@ pub fn wrong_definitions_differ()
         ≡ whole ((sum 1805000 ∷ []) ∷ []) }
     ensures unseen_conflict { conflicts_of_all orders_explore other_shop (record (query_of_ann (Mea 3 ∷ []) (0 ∷ 1 ∷ [])) { rows = two_orders }) (3 ∷ [])
         ≡ (0, units 12) ∷ (0, units 12) ∷ [] }
+{}
+
+/// What is written at a count as its value, and at a cross join as its condition, has no effect. Joins are a set,
+/// taken in declared order, and filters stand by their fields' names. A timeframe of one view is not had from that
+/// of another. A law: it computes nothing.
+pub fn corners_are_defined()
+    ensures count_with_value { joins_for count_with_value [] (5 ∷ []) ≡ [] }
+    ensures cross_with_condition { joins_for cross_with_condition (6 ∷ []) [] ≡ 0 ∷ [] }
+    ensures any_order { joined_rows orders_explore shop (1 ∷ 0 ∷ 1 ∷ []) ≡ joined_rows orders_explore shop (0 ∷ 1 ∷ []) }
+    ensures fanned_in_any_order { is_fanned orders_explore (1 ∷ 0 ∷ []) 1 ≡ is_fanned orders_explore (0 ∷ 1 ∷ []) 1 }
+    ensures by_name { map (λ f. f.0) (with_always with_default (of_status (codes "open"))) ≡ 8 ∷ 2 ∷ [] }
+    ensures other_view { has_field buyers_and_sellers by_buyers_day 1 ≡ false }
+    ensures same_view { has_field buyers_and_sellers by_buyers_day 2 ≡ true }
+{}
+
+/// Which derived tables and datagroups an explore reaches, through persisted tables too, and which derived tables
+/// read themselves. A law: it computes nothing.
+pub fn derived_tables_are_reached()
+    ensures tables { reached_tables chained (explore_at chained 2) ≡ 0 ∷ 1 ∷ [] }
+    ensures datagroups { explore_datagroups chained (explore_at chained 2) ≡ 0 ∷ 1 ∷ [] }
+    ensures route_reads_one { reached_datagroups chained (explore_at chained 2) [] ≡ 1 ∷ [] }
+    ensures alone { explore_datagroups chained (explore_at chained 0) ≡ [] }
+    ensures circular { reads_itself circular 0 ≡ true }
+    ensures no_circle { reads_itself chained 1 ≡ false }
+    ensures kinds { kind_at (leaves_of chained (explore_at chained 2)) 0 0 ≡ Some kind.Text }
+{}
+
+/// The shop is a resolved model, and variants of it are not. A law: it computes nothing.
+pub fn the_shop_is_resolved()
+    ensures shop { IsResolved shop_model }
+    ensures count_with_value { is_typed_explore shop_model count_with_value ≡ false }
+    ensures cross_with_condition { is_typed_explore shop_model cross_with_condition ≡ false }
+    ensures two_datagroups { are_one (explore_datagroups chained (explore_at chained 2)) ≡ false }
 {}

@@ -1,2 +1,4 @@
 pub mod MentionLaws
 pub mod FittingLaws
+pub mod UnfoldedLaws
+pub mod ShapeLaws

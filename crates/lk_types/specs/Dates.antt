@@ -1,15 +1,23 @@
 -- Rows and expressions whose days and moments are of the years 1 to 9999.
-use Rattle.std.specs.Prelude.{Bool, true, ◌&&◌, List, Option, Some, None, pos, neg_ℤ, int_le}
+use Rattle.std.specs.Prelude.{Bool, true, ◌&&◌, List, Option, Some, None, ℤ, pos, neg_ℤ, int_le}
 use Rattle.std.specs.List.{list_all}
 use Rattle.lk_val.specs.declared.value.Value.{Value}
 use Rattle.lk_val.specs.declared.value.Value.TheVariants.{Day, Moment}
 use Rattle.lk_types.specs.Formula.{Formula, Column, Literal, Framed, Not, And, Or, Compare, IsNull, In, Between, Like, Number, Negate, Concat, Lower, Upper, Case, Coalesce, NullIf, Formulas, no_more, more, Cases, without_else, otherwise, when}
 use Rattle.lk_types.specs.declared.rows.Joined.{Joined}
 
--- a day is one from 0001-01-01 to 9999-12-31, and a moment one of its seconds
+-- the day is one from 0001-01-01 to 9999-12-31, counted from 1970-01-01
+abbrev pub is_day_in_years : ℤ → Bool
+is_day_in_years day = int_le (neg_ℤ (pos 719162)) day && int_le day (pos 2932896)
+
+-- the moment is a second of these days, counted from 1970-01-01 00:00:00 UTC
+abbrev pub is_moment_in_years : ℤ → Bool
+is_moment_in_years moment = int_le (neg_ℤ (pos 62135596800)) moment && int_le moment (pos 253402300799)
+
+-- a day is one of the years 1 to 9999, and a moment one of their seconds
 abbrev pub is_dated : Value → Bool
-is_dated (Day d) = int_le (neg_ℤ (pos 719162)) d && int_le d (pos 2932896)
-is_dated (Moment m) = int_le (neg_ℤ (pos 62135596800)) m && int_le m (pos 253402300799)
+is_dated (Day d) = is_day_in_years d
+is_dated (Moment m) = is_moment_in_years m
 is_dated v = true
 
 -- the cells of a part are so

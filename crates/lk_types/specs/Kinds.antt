@@ -67,6 +67,18 @@ comparable s = record s { day = has_time s; moment = has_time s }
 unfoldable pub do_compare : KindSet → KindSet → Bool
 do_compare s t = not (is_empty (shared s (comparable t)))
 
+-- the kind is in the set
+abbrev pub has_kind : Kind → KindSet → Bool
+has_kind kind.Text s = s.text
+has_kind kind.Number s = s.number
+has_kind kind.Truth s = s.truth
+has_kind kind.Day s = s.day
+has_kind kind.Moment s = s.moment
+
+-- two kinds are the same
+abbrev pub is_same_kind : Kind → Kind → Bool
+is_same_kind j k = has_kind j (only k)
+
 -- ---- kinds of values and columns
 
 -- null has every kind

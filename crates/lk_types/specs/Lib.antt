@@ -7,6 +7,7 @@ pub mod FormulaCode
 pub mod Calculation
 pub mod CalculationCode
 pub mod Expressions
+pub mod Unfolded
 pub mod Fitting
 pub mod Filters
 pub mod Tables

@@ -101,3 +101,9 @@ cell_text s (cell.Value v) = shaped_text s v
 cell_text s (cell.Count n) = decimal n
 cell_text s (cell.Sum count) = number_text count
 cell_text s (cell.Frac f) = fraction_text f
+
+-- a cell in JSON: its text, and nothing for null, but for the null of a tier, which has a name
+abbrev pub cell_json : Shape → Cell → Option (List ℕ)
+cell_json (shape.Tier bounds) c = Some (cell_text (shape.Tier bounds) c)
+cell_json s (cell.Value value.Null) = None
+cell_json s c = Some (cell_text s c)

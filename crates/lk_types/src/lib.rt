@@ -28,11 +28,14 @@ pub use explore::{
 pub use expr::{Args, Arithmetic, Branches, Comparison, Expr, Node, Piece};
 pub use filter::{Days, Edge, End, Filter, Period, Test};
 pub use kind_set::{KindSet, Leaves};
-pub use laws::expressions_read_what_they_mention;
+pub use laws::{
+    comparisons_stand_for_lists_and_ranges, expressions_read_what_they_mention,
+    shaped_values_have_their_kinds,
+};
 pub use model::{Datagroup, Derived, Model, Pick, Trigger};
 pub use number::{NumArgs, NumExpr, NumNode};
 pub use pattern::matches;
-pub use printing::print_cell;
+pub use printing::{print_cell, print_json};
 pub use rows::{Joined, Sources, Tables};
 pub use schema::{ColumnDef, Frame, Kind, Schema, TableDef};
 

@@ -1,6 +1,6 @@
 ghost use Rattle.std.specs.Prelude.{◌≡◌, ◌<◌, ◌^◌, ◌≤ℤ◌, pos, neg_ℤ, IfOk, Some, None, string_bytes};
 ghost use Rattle.std.specs.List.{position};
-ghost use Rattle.lk_types.specs.Printing.{cell_text, value_text, shaped_text, frame_text, tier_text, tier_below, is_bound_above, bound_at, fraction_text, date_text, month_text, quarter_text, year_text, time_text, two_digits, four_digits};
+ghost use Rattle.lk_types.specs.Printing.{cell_json, cell_text, value_text, shaped_text, frame_text, tier_text, tier_below, is_bound_above, bound_at, fraction_text, date_text, month_text, quarter_text, year_text, time_text, two_digits, four_digits};
 ghost use Rattle.lk_val.specs.declared.value.Value.TheVariants as value;
 
 use crate::calendar::{
@@ -22,6 +22,17 @@ pub fn print_cell(alloc: Global, cell: &Cell, shape: &Shape) -> Result<Text, NoM
         Cell::Count(count) => Ok(Text::from_string(format!(in alloc; "{count}")?)),
         Cell::Sum(sum) => print_count(alloc, *sum),
         Cell::Frac(fraction) => print_fraction(alloc, fraction),
+    }
+}
+
+/// The cell in JSON: its printed form, and none for null. The null of a tier has a name, as in CSV.
+pub fn print_json(alloc: Global, cell: &Cell, shape: &Shape) -> Result<Option<Text>, NoMemory>
+    ensures { IfOk result (λ text. text ≡ cell_json shape.now cell.now) }
+{
+    match (shape, cell) {
+        (Shape::Tier(_), _) => Ok(Some(print_cell(alloc, cell, shape)?)),
+        (_, Cell::Value(Value::Null)) => Ok(None),
+        _ => Ok(Some(print_cell(alloc, cell, shape)?)),
     }
 }
 

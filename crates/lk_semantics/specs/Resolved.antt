@@ -1,0 +1,356 @@
+-- What a resolved model is: what every call that takes one may rely on.
+use Rattle.std.specs.Prelude.{◌≡◌, ℕ, ◌+◌, nat_eq, nat_lt, nat_le, Bool, true, false, not, ◌&&◌, ◌||◌, if◌then◌else◌, ℤ, pos, neg_ℤ, int_le, int_lt, List, [], ◌∷◌, ◌++◌, map, flat_map, length, slice_get, Option, Some, None}
+use Rattle.std.specs.List.{list_any, list_all, enumerate_from, AllByRecursion}
+use Rattle.lk_types.specs.Formula.{Formula, Column}
+use Rattle.lk_types.specs.Calculation.{Calculation}
+use Rattle.lk_types.specs.Expressions.{has_number}
+use Rattle.lk_types.specs.Dates.{are_literals_dated}
+use Rattle.lk_types.specs.Shapes.{shaped_kind}
+use Rattle.lk_types.specs.Kinds.{kinds_of, has_kind, is_same_kind}
+use Rattle.lk_semantics.specs.Joins.{is_cross, numbers_below, in_declared_order}
+use Rattle.lk_semantics.specs.Answers.{measure_at, measures_in, components_of, filtered, query_components}
+use Rattle.lk_semantics.specs.Derived.{explore_at, derived_query}
+use Rattle.lk_semantics.specs.Rollups.{may_be_stored, may_be_rolled_up}
+use Rattle.lk_semantics.specs.Reading.{table_at, leaves_of, reads_itself, explore_datagroups}
+use Rattle.lk_val.specs.Least.{least_set}
+use Rattle.lk_types.specs.declared.schema.Kind.{Kind}
+use Rattle.lk_types.specs.declared.schema.Kind.TheVariants as kind
+use Rattle.lk_types.specs.declared.kind_set.Leaves.{Leaves}
+use Rattle.lk_types.specs.declared.filter.Filter.{Filter}
+use Rattle.lk_types.specs.declared.explore.Shape.{Shape}
+use Rattle.lk_types.specs.declared.explore.Shape.TheVariants as shape
+use Rattle.lk_types.specs.declared.explore.Field.{Field}
+use Rattle.lk_types.specs.declared.explore.Part.{Part}
+use Rattle.lk_types.specs.declared.explore.Join.{Join}
+use Rattle.lk_types.specs.declared.explore.Origin.{Origin}
+use Rattle.lk_types.specs.declared.explore.Origin.TheVariants as origin
+use Rattle.lk_types.specs.declared.explore.Op.{Op}
+use Rattle.lk_types.specs.declared.explore.Op.TheVariants as op
+use Rattle.lk_types.specs.declared.explore.Measure.{Measure}
+use Rattle.lk_types.specs.declared.explore.Rollup.{Rollup}
+use Rattle.lk_types.specs.declared.explore.Explore.{Explore}
+use Rattle.lk_types.specs.declared.model.Model.{Model}
+use Rattle.lk_types.specs.declared.model.Derived.{Derived}
+use Rattle.lk_types.specs.declared.model.Datagroup.{Datagroup}
+use Rattle.lk_types.specs.declared.model.Trigger.{Trigger}
+use Rattle.lk_types.specs.declared.model.Trigger.TheVariants as trigger
+use Rattle.lk_types.specs.declared.model.Pick.{Pick}
+use Rattle.lk_types.specs.declared.model.Pick.TheVariants as pick
+use Rattle.lk_types.specs.declared.bound.Bound.{Bound}
+
+-- ---- numbers in range
+
+-- each of the numbers is below a bound
+abbrev pub are_below : ℕ → List ℕ → Bool
+are_below bound numbers = list_all (λ n. nat_lt n bound) numbers
+
+-- a number, if there is one, is below a bound
+abbrev pub is_none_or_below : ℕ → Option ℕ → Bool
+is_none_or_below bound None = true
+is_none_or_below bound (Some n) = nat_lt n bound
+
+-- the numbers of fields
+abbrev pub are_fields : Explore → List ℕ → Bool
+are_fields x fields = are_below (length x.fields) fields
+
+-- the numbers of measures
+abbrev pub are_measures : Explore → List ℕ → Bool
+are_measures x measures = are_below (length x.measures) measures
+
+-- a view reads a table of the schema or a derived table
+abbrev pub is_origin : Model → Origin → Bool
+is_origin m (origin.Stored t) = nat_lt t (length m.schema.tables)
+is_origin m (origin.Derived d) = nat_lt d (length m.derived)
+
+-- what is asked for is a dimension or a measure of the explore
+abbrev pub is_pick : Explore → Pick → Bool
+is_pick x (pick.Dim f) = nat_lt f (length x.fields)
+is_pick x (pick.Mea n) = nat_lt n (length x.measures)
+
+-- the measures that a `number` names, none of any other type
+abbrev pub named_measures : Measure → List ℕ
+named_measures m = named m.number
+  where
+    named : Option Calculation → List ℕ
+    named None = []
+    named (Some e) = measures_in e
+
+-- a measure's view, the fields of its filters, and the measures that it names are there
+abbrev pub is_numbered_measure : Explore → Measure → Bool
+is_numbered_measure x m = nat_lt m.part (length x.parts) && are_fields x (filtered m.filters) && are_measures x (named_measures m)
+
+-- an aggregate table's dimensions, measures, filtered fields and datagroup are there
+abbrev pub is_numbered_rollup : Model → Explore → Rollup → Bool
+is_numbered_rollup m x r =
+    are_fields x r.dims && are_measures x r.measures && are_fields x (filtered r.filters) && nat_lt r.datagroup (length m.datagroups)
+
+-- each number in an explore is that of something
+abbrev pub is_numbered_explore : Model → Explore → Bool
+is_numbered_explore m x =
+    list_all (λ part. is_origin m part.origin) x.parts
+    && list_all (λ join. are_below (length x.joins) join.required) x.joins
+    && list_all (λ f. nat_lt f.part (length x.parts)) x.fields
+    && list_all (is_numbered_measure x) x.measures
+    && are_below (length x.joins) x.always_join
+    && are_fields x (filtered x.always)
+    && are_fields x (map (λ a. a.0) x.access)
+    && list_all (is_numbered_rollup m x) x.rollups
+
+-- each number in a derived table is that of something
+abbrev pub is_numbered_derived : Model → Derived → Bool
+is_numbered_derived m d =
+    nat_lt d.explore (length m.explores)
+    && list_all (λ c. is_pick (explore_at m d.explore) c.1) d.columns
+    && are_fields (explore_at m d.explore) (filtered d.filters)
+    && is_none_or_below (length m.datagroups) d.datagroup
+
+-- a trigger watches a table of the schema, and a column of it
+abbrev pub is_numbered_trigger : Model → Trigger → Bool
+is_numbered_trigger m (trigger.Max t column) = nat_lt t (length m.schema.tables) && nat_lt column (length (table_at m t).columns)
+is_numbered_trigger m (trigger.Count t) = nat_lt t (length m.schema.tables)
+is_numbered_trigger m trigger.Today = true
+
+-- the trigger of a datagroup, if it has one, is in range
+abbrev pub is_numbered_datagroup : Model → Datagroup → Bool
+is_numbered_datagroup m g = of_trigger g.trigger
+  where
+    of_trigger : Option Trigger → Bool
+    of_trigger None = true
+    of_trigger (Some t) = is_numbered_trigger m t
+
+-- every number in a model is that of something
+abbrev pub is_numbered : Model → Bool
+is_numbered m =
+    list_all (λ t. is_none_or_below (length t.columns) t.key) m.schema.tables
+    && list_all (is_numbered_explore m) m.explores
+    && list_all (is_numbered_derived m) m.derived
+    && list_all (is_numbered_datagroup m) m.datagroups
+
+-- an explore has one view more than joins: join i brings view i + 1
+abbrev pub has_part_for_each_join : Explore → Bool
+has_part_for_each_join x = nat_eq (length x.parts) (length x.joins + 1)
+
+-- ---- shapes and kinds
+
+-- some bounds, strictly ascending, each a number of a column as a whole number
+abbrev pub are_tiers : List ℤ → Bool
+are_tiers [] = false
+are_tiers (b ∷ []) = int_le (neg_ℤ (pos 922337203685477)) b && int_le b (pos 922337203685477)
+are_tiers (b ∷ c ∷ bs) = int_le (neg_ℤ (pos 922337203685477)) b && int_lt b c && are_tiers (c ∷ bs)
+
+-- a shape whose tiers ascend
+abbrev pub has_tiers : Shape → Bool
+has_tiers shape.Plain = true
+has_tiers (shape.Tier bounds) = are_tiers bounds
+has_tiers (shape.Frame group frame) = true
+
+-- an expression whose kinds have the kind, without a clash, and whose literals are of the years 1 to 9999
+abbrev pub is_typed : Leaves → Kind → Formula → Bool
+is_typed leaves k e = has_kind k (kinds_of leaves e) && are_literals_dated e
+
+-- an expression, if there is one, is so
+abbrev pub is_none_or_typed : Leaves → Kind → Option Formula → Bool
+is_none_or_typed leaves k None = true
+is_none_or_typed leaves k (Some e) = is_typed leaves k e
+
+-- an expression is there and is so
+abbrev pub is_some_typed : Leaves → Kind → Option Formula → Bool
+is_some_typed leaves k None = false
+is_some_typed leaves k (Some e) = is_typed leaves k e
+
+-- an expression is there and has some kind
+abbrev pub is_some_known : Leaves → Option Formula → Bool
+is_some_known leaves e = list_any (λ k. is_some_typed leaves k e) (kind.Text ∷ kind.Number ∷ kind.Truth ∷ kind.Day ∷ kind.Moment ∷ [])
+
+-- the kinds of which a field of the shape and kind may be made: a tier is made of a number, a timeframe of a day or moment
+abbrev pub is_made_of : Field → Kind → Bool
+is_made_of f k = is_same_kind f.kind (shaped_kind f.shape k) && may_shape f.shape k
+  where
+    may_shape : Shape → Kind → Bool
+    may_shape shape.Plain base = true
+    may_shape (shape.Tier bounds) base = is_same_kind base kind.Number
+    may_shape (shape.Frame group frame) base = is_same_kind base kind.Day || is_same_kind base kind.Moment
+
+-- a dimension's expression has a kind from which its shape makes its own
+abbrev pub is_typed_field : Leaves → Field → Bool
+is_typed_field leaves f =
+    has_tiers f.shape
+    && list_any (λ k. is_made_of f k && is_typed leaves k f.expr) (kind.Text ∷ kind.Number ∷ kind.Truth ∷ kind.Day ∷ kind.Moment ∷ [])
+
+-- a measure has what its type computes with, and nothing else: its value of its kind, a key, or a calculation
+abbrev pub is_typed_measure : Leaves → Measure → Bool
+is_typed_measure leaves m = by_op m.op && (not (is_numeric m.op) || is_same_kind m.kind kind.Number) && (not (is_number m.op) || has_calculation) && (is_number m.op || not has_calculation)
+  where
+    is_number : Op → Bool
+    is_number op.Number = true
+    is_number other = false
+
+    is_numeric : Op → Bool
+    is_numeric op.Min = false
+    is_numeric op.Max = false
+    is_numeric other = true
+
+    has_calculation : Bool
+    has_calculation = is_there m.number
+      where
+        is_there : Option Calculation → Bool
+        is_there None = false
+        is_there (Some e) = true
+
+    no_value : Option Formula → Bool
+    no_value None = true
+    no_value (Some e) = false
+
+    by_op : Op → Bool
+    by_op op.Count = no_value m.value
+    by_op op.Number = no_value m.value
+    by_op op.CountDistinct = is_some_known leaves m.value
+    by_op op.Min = is_some_typed leaves m.kind m.value
+    by_op op.Max = is_some_typed leaves m.kind m.value
+    by_op op.Sum = is_some_typed leaves kind.Number m.value
+    by_op op.Average = is_some_typed leaves kind.Number m.value
+    by_op op.SumDistinct = is_some_typed leaves kind.Number m.value && is_some_known leaves m.key
+    by_op op.AverageDistinct = is_some_typed leaves kind.Number m.value && is_some_known leaves m.key
+
+-- a cross join has no condition, and every other join one that is yes or no
+abbrev pub is_typed_join : Leaves → Join → Bool
+is_typed_join leaves join = of_kind (is_cross join.kind) join.on
+  where
+    of_kind : Bool → Option Formula → Bool
+    of_kind true None = true
+    of_kind true (Some e) = false
+    of_kind false on = is_some_typed leaves kind.Truth on
+
+-- a view's key has some kind
+abbrev pub has_typed_key : Leaves → Part → Bool
+has_typed_key leaves part = of_key part.key
+  where
+    of_key : Option Formula → Bool
+    of_key None = true
+    of_key (Some e) = is_some_known leaves (Some e)
+
+-- all expressions of an explore have the kinds of their places
+abbrev pub is_typed_explore : Model → Explore → Bool
+is_typed_explore m x =
+    list_all (has_typed_key (leaves_of m x)) x.parts
+    && list_all (is_typed_join (leaves_of m x)) x.joins
+    && list_all (is_typed_field (leaves_of m x)) x.fields
+    && list_all (is_typed_measure (leaves_of m x)) x.measures
+    && is_none_or_typed (leaves_of m x) kind.Truth x.always_where
+
+-- two fields that are timeframes of one group are of one view and one expression
+abbrev pub AreOfOneGroup : Field → Field → Type 0
+AreOfOneGroup f g = of_shapes f.shape g.shape
+  where
+    of_shapes : Shape → Shape → Type 0
+    of_shapes (shape.Frame a frame) (shape.Frame b other) = a ≡ b → (f.part ≡ g.part) × (f.expr ≡ g.expr)
+    of_shapes s t = Unit {0}
+
+-- each group of timeframes is of one view
+abbrev pub HasGroupsOfOnePart : Explore → Type 0
+HasGroupsOfOnePart x = AllByRecursion (λ f. AllByRecursion (AreOfOneGroup f) x.fields) x.fields
+
+-- ---- keys
+
+-- the key column of a stored table, where a view's primary key is that column
+abbrev pub key_column : ℕ → Option ℕ → Option Formula → Option ℕ
+key_column p (Some column) (Some (Column q c)) = if nat_eq p q && nat_eq column c then Some column else None
+key_column p key e = None
+
+-- the enforced key of a view: what the schema and its primary key say
+abbrev pub enforced_key : Model → ℕ → Part → Option ℕ
+enforced_key m p part = of_origin part.origin
+  where
+    of_origin : Origin → Option ℕ
+    of_origin (origin.Stored t) = key_column p (table_at m t).key part.key
+    of_origin (origin.Derived d) = None
+
+-- the same number, or none in both
+abbrev pub is_same_option : Option ℕ → Option ℕ → Bool
+is_same_option None None = true
+is_same_option (Some a) (Some b) = nat_eq a b
+is_same_option a b = false
+
+-- the enforced key of each view is exactly that
+abbrev pub has_exact_keys : Model → Explore → Bool
+has_exact_keys m x = list_all (λ part. is_same_option part.1.enforced (enforced_key m part.0 part.1)) (enumerate_from 0 x.parts)
+
+-- ---- measures over measures
+
+-- a measure whose calculation names only known ones
+abbrev pub is_grounded_in : Explore → List ℕ → ℕ → Bool
+is_grounded_in x known m = list_all (λ n. has_number n known) (named_measures (measure_at x m))
+
+-- no `number` stands on itself: all measures are in the least set that has each measure which names only measures of it
+abbrev pub has_grounded_measures : Explore → Bool
+has_grounded_measures x =
+    list_all (λ m. has_number m (least_set nat_eq (numbers_below (length x.measures)) (is_grounded_in x))) (numbers_below (length x.measures))
+
+-- ---- what is stored
+
+-- the filters have no relative date
+abbrev pub are_fixed : List (ℕ × Filter) → Bool
+are_fixed filters = list_all (λ f. not f.1.relative) filters
+
+-- the filters of some measures have none
+abbrev pub have_fixed_filters : Explore → List ℕ → Bool
+have_fixed_filters x measures = list_all (λ m. are_fixed (measure_at x m).filters) measures
+
+-- an aggregate table depends on no moment
+abbrev pub is_fixed_rollup : Explore → Rollup → Bool
+is_fixed_rollup x r = are_fixed r.filters && have_fixed_filters x (components_of x r.measures)
+
+-- a derived table depends on no moment: its own filters, its explore's default filters, and those of its measures
+abbrev pub is_fixed_derived : Model → Derived → Bool
+is_fixed_derived m d =
+    let x = explore_at m d.explore in
+    are_fixed d.filters && are_fixed x.always && have_fixed_filters x (query_components x (derived_query x d))
+
+-- the measures of a derived table may stand in a stored query
+abbrev pub may_be_derived : Model → Derived → Bool
+may_be_derived m d =
+    let x = explore_at m d.explore in
+    let query = derived_query x d in
+    list_all (λ n. may_be_stored x query.joins (measure_at x n)) (query_components x query)
+
+-- all the numbers are one
+abbrev pub are_one : List ℕ → Bool
+are_one [] = true
+are_one (g ∷ gs) = list_all (nat_eq g) gs
+
+-- ---- the whole
+
+-- an explore of a resolved model
+pub record IsResolvedExplore (m : Model) (x : Explore) : Type 0 where
+  pub parts : has_part_for_each_join x ≡ true
+  pub typed : is_typed_explore m x ≡ true
+  pub groups : HasGroupsOfOnePart x
+  pub keys : has_exact_keys m x ≡ true
+  pub grounded : has_grounded_measures x ≡ true
+  pub stored : list_all (may_be_rolled_up x) x.rollups ≡ true
+  pub fixed : list_all (is_fixed_rollup x) x.rollups ≡ true
+  pub one_datagroup : are_one (explore_datagroups m x) ≡ true
+
+-- a derived table of a resolved model
+pub record IsResolvedDerived (m : Model) (d : Derived) : Type 0 where
+  pub stored : may_be_derived m d ≡ true
+  pub fixed : is_fixed_derived m d ≡ true
+
+-- a resolved model
+pub record IsResolved (m : Model) : Type 0 where
+  pub numbered : is_numbered m ≡ true
+  pub explores : AllByRecursion (IsResolvedExplore m) m.explores
+  pub derived : AllByRecursion (IsResolvedDerived m) m.derived
+  pub acyclic : list_all (λ d. not (reads_itself m d)) (numbers_below (length m.derived)) ≡ true
+
+-- ---- queries of a model
+
+-- the numbers of a bound query are the model's, and its joins are a set in declared order
+pub record IsInModel (m : Model) (b : Bound) : Type 0 where
+  pub explore : nat_lt b.explore (length m.explores) ≡ true
+  pub picks : list_all (is_pick (explore_at m b.explore)) b.picks ≡ true
+  pub joins : b.joins ≡ in_declared_order (explore_at m b.explore) b.joins
+  pub access : are_fields (explore_at m b.explore) (filtered b.access) ≡ true
+  pub rows : are_fields (explore_at m b.explore) (filtered b.rows) ≡ true
+  pub having : are_measures (explore_at m b.explore) (filtered b.having) ≡ true
+  pub sorts : list_all (λ s. nat_lt s.place (length b.picks)) b.sorts ≡ true
