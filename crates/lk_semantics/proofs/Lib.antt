@@ -4,3 +4,5 @@ pub mod IsolationLaws
 pub mod PairLaws
 pub mod GroupLaws
 pub mod ShopLaws
+pub mod EveryLaws
+pub mod DatedLaws

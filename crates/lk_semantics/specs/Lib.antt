@@ -3,6 +3,7 @@ pub mod Rows
 pub mod Measures
 pub mod Answers
 pub mod Derived
+pub mod DatedRows
 pub mod Rollups
 pub mod Reading
 pub mod Resolved

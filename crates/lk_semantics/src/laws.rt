@@ -1,6 +1,10 @@
 ghost use Rattle.std.specs.Prelude.{◌≡◌, ◌++◌, ◌∷◌, ℕ, List, true, length, filter, [], IsPermutation};
 ghost use Rattle.lk_val.specs.Values.{is_same_tuple};
-ghost use Rattle.lk_semantics.specs.Joins.{IsClosedUnderNeed, needed_joins};
+ghost use Rattle.std.specs.List.{list_all};
+ghost use Rattle.lk_types.specs.Dates.{is_row_dated};
+ghost use Rattle.lk_semantics.specs.DatedRows.{are_sources_dated};
+ghost use Rattle.lk_types.specs.declared.rows.Sources.{Sources};
+ghost use Rattle.lk_semantics.specs.Joins.{joined_rows, IsClosedUnderNeed, needed_joins};
 ghost use Rattle.lk_types.specs.Expressions.{has_number};
 ghost use Rattle.lk_semantics.specs.Measures.{Entry, groups_of, pairs_of};
 ghost use Rattle.lk_types.specs.declared.answer.GivenRow.{GivenRow};
@@ -43,4 +47,9 @@ pub fn determined_views_are_least()
     ensures closed { (x : Explore) (joins : List ℕ) (v : ℕ) → AreClosedUnderRules x joins v (standings x joins v) }
     ensures least { (x : Explore) (joins : List ℕ) (v : ℕ) (known : List Standing) → AreClosedUnderRules x joins v known
         → (s : Standing) → is_in is_same_standing s (standings x joins v) ≡ true → is_in is_same_standing s known ≡ true }
+{}
+
+/// The joined rows of tables whose days and moments are of the years 1 to 9999 are so too. A law: it computes nothing.
+pub fn joined_rows_are_dated()
+    ensures { (x : Explore) (s : Sources) (joins : List ℕ) → are_sources_dated s ≡ true → list_all is_row_dated (joined_rows x s joins) ≡ true }
 {}

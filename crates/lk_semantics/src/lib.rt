@@ -12,5 +12,5 @@ pub use examples::{
 };
 pub use laws::{
     answers_are_isolated, determined_views_are_least, each_row_has_one_group,
-    needed_joins_are_least, pairs_are_a_set,
+    joined_rows_are_dated, needed_joins_are_least, pairs_are_a_set,
 };
