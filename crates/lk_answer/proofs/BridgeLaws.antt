@@ -31,7 +31,7 @@ use Rattle.lk_types.specs.declared.answer.Answer.{Answer}
 use Rattle.lk_types.specs.declared.answer.Answer.TheVariants.{Table}
 use Rattle.lk_types.specs.Expressions.{has_number}
 use Rattle.lk_semantics.specs.Rows.{tuple_of}
-use Rattle.lk_semantics.specs.Measures.{Entry, entry_at, no_entry, entries_of, groups_of, group_row, group_rows, measure_of, conflict_keys, conflicts_of}
+use Rattle.lk_semantics.specs.Measures.{head_of, first_conflict, Entry, entry_at, no_entry, entries_of, groups_of, group_row, group_rows, measure_of, conflict_keys, conflicts_of}
 use Rattle.lk_semantics.specs.Answers.{measure_at, picked_measures, parts_of_measure, or_parts, query_components, first_each, key_value, given_row, given_rows, ops_of, component_cell, cell_within, frac_of_cell, or_calculated, measure_cell, line_cells, line_of, lines_of, passes_having, line_cmp, cut, answer_unless, answer_over, answer_of}
 use Rattle.lk_answer.specs.Views.{explore_of, pick_of, bound_of, sources_of, op_of, answer_of_table}
 use Rattle.lk_answer.specs.Views as views
@@ -283,7 +283,7 @@ module _ (x : View) (b : ViewBound) (rows : List (List Value)) (within : AllByRe
 
   abbrev over : List ℕ → Answer
   over dims =
-      answer_unless asked (conflicts_of (length dims) (ops_of (explore_of x) asked) (given_rows (explore_of x) dims asked (map joined rows)))
+      answer_unless asked (first_conflict (length dims) (ops_of (explore_of x) asked) (given_rows (explore_of x) dims asked (map joined rows)))
       (cut b.limit (lines_of (explore_of x) (bound_of b) (group_rows (length dims) (ops_of (explore_of x) asked) (given_rows (explore_of x) dims asked (map joined rows)))))
 
   abbrev all_groups : List GroupRow
@@ -293,6 +293,6 @@ module _ (x : View) (b : ViewBound) (rows : List (List Value)) (within : AllByRe
   agree =
       ap (answer_over (explore_of x) (bound_of b)) (all_pass x b rows)
       ∙ ap over (dims_are b.picks)
-      ∙ ap (λ conflicts. answer_unless asked conflicts (cut b.limit (lines_of (explore_of x) (bound_of b) all_groups))) (no_conflicts x b.picks rows within asked asked_within)
+      ∙ ap (λ conflicts. answer_unless asked (head_of conflicts) (cut b.limit (lines_of (explore_of x) (bound_of b) all_groups))) (no_conflicts x b.picks rows within asked asked_within)
       ∙ ap (λ passed. cut b.limit (set_of (line_cmp []) (map (line_of (explore_of x) (bound_of b)) passed))) (filter_all (passes_having (explore_of x) (bound_of b)) (λ g. refl) all_groups)
       ∙ cut_is x b.picks rows within asked asked_within b.limit among

@@ -4,3 +4,4 @@ pub mod PlacedLaws
 pub mod LookupLaws
 pub mod BridgeLaws
 pub mod ValueLemmas
+pub mod DeclaredLaws

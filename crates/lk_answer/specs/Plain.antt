@@ -37,8 +37,3 @@ IsPlaced entry = entry.0 < 2 ^ 63
 
 abbrev pub IsPlacedRow : GivenRow → Type 0
 IsPlacedRow row = row.place < 2 ^ 63
-
--- the number is that of a join, and of the view that it brings
-pub record IsJoin (x : Explore) (j : ℕ) : Type 0 where
-  pub within : j < length x.joins
-  pub brings : j + 1 < length x.parts

@@ -21,6 +21,3 @@ pub use lines::{BySorts, cut};
 pub use measures::measure_of;
 pub use pairs::{entries_of, pairs_of};
 pub use sets::set_of;
-
-#[cfg(test)]
-mod tests;

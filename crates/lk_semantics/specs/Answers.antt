@@ -147,7 +147,7 @@ is_placed o None = uses_key o
 abbrev pub key_value : Explore → Measure → Joined → KeyValue
 key_value x m row = record {
   key = option_map (λ e. value_of e row) (key_of x m);
-  value = optional_value (value_taken m) row;
+  value = optional_value m.value row;
   counts = passes_all x m.filters row && (not (is_placed m.op (key_of x m)) || has_part m.part row);
 }
 
