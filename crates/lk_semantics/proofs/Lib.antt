@@ -6,3 +6,5 @@ pub mod GroupLaws
 pub mod ShopLaws
 pub mod EveryLaws
 pub mod DatedLaws
+pub mod CountLaws
+pub mod DepthLaws

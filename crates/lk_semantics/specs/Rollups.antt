@@ -148,6 +148,10 @@ standings x joins v = least_set is_same_standing (all_standings x) (stands x joi
 abbrev pub determined_views : Explore → List ℕ → ℕ → List ℕ
 determined_views x joins v = filter (is_determined_in (standings x joins v)) (numbers_below (length x.parts))
 
+-- the views that each row with a key of v has over the joins, ascending
+abbrev pub present_views : Explore → List ℕ → ℕ → List ℕ
+present_views x joins v = filter (is_present_in (standings x joins v)) (numbers_below (length x.parts))
+
 -- ---- fit
 
 -- the joins of a rollup's query

@@ -11,7 +11,7 @@ ghost use Rattle.lk_semantics.specs.Derived.{explore_at, joins_for, with_always}
 ghost use Rattle.lk_semantics.specs.Reading.{reached_tables, explore_datagroups, reads_itself, leaves_of};
 ghost use Rattle.lk_semantics.specs.Resolved.{IsResolved, is_typed_explore, are_one};
 ghost use Rattle.lk_semantics.specs.Corners.{count_with_value, cross_with_condition, with_default, buyers_and_sellers, by_buyers_day, chained, circular};
-ghost use Rattle.lk_semantics.specs.Rollups.{determined_views, has_field, reached_datagroups, fits, route_of, partials_of, may_be_stored, may_be_rolled_up, merged, cell_of_partial};
+ghost use Rattle.lk_semantics.specs.Rollups.{determined_views, present_views, has_field, reached_datagroups, fits, route_of, partials_of, may_be_stored, may_be_rolled_up, merged, cell_of_partial};
 ghost use Rattle.lk_types.specs.Tables.{is_valid_table};
 ghost use Rattle.lk_types.specs.Kinds.{kind_at};
 ghost use Rattle.lk_semantics.specs.Shop.{shop, other_shop, empty_shop, greatest_shop, shop_without_user, shop_model, items, items_def, orders_explore, orders_with, near_orders, not_far, order_without_user, per_order, greatest_total, by_day, by_price, query, query_of_ann, open_query, two_orders, of_status, at_least_100, whole, sum, dim, day, fraction_cell, kept, of_values};
@@ -111,6 +111,7 @@ pub fn derived_tables_are_answers()
 pub fn rollups_fit_and_regroup()
     ensures of_orders { determined_views orders_explore (0 ∷ 1 ∷ []) 0 ≡ 0 ∷ 1 ∷ [] }
     ensures of_items { determined_views orders_explore (0 ∷ 1 ∷ []) 2 ≡ 0 ∷ 1 ∷ 2 ∷ [] }
+    ensures there_with_items { present_views orders_explore (0 ∷ 1 ∷ []) 2 ≡ 0 ∷ 2 ∷ [] }
     ensures by_price_total { fits orders_explore by_price (query (Dim 10 ∷ Mea 1 ∷ []) (0 ∷ 1 ∷ [])) ≡ false }
     ensures same_dimensions { fits orders_explore by_price (query (Dim 7 ∷ Dim 10 ∷ Mea 1 ∷ []) (0 ∷ 1 ∷ [])) ≡ true }
     ensures by_price_count { fits orders_explore by_price (query (Dim 10 ∷ Mea 4 ∷ []) (0 ∷ 1 ∷ [])) ≡ true }

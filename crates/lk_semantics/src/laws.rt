@@ -1,10 +1,14 @@
-ghost use Rattle.std.specs.Prelude.{◌≡◌, ◌++◌, ◌∷◌, ℕ, List, true, length, filter, [], IsPermutation};
+ghost use Rattle.std.specs.Prelude.{◌≡◌, ◌++◌, ◌∷◌, ℕ, List, true, length, filter, map, not, [], IsPermutation};
 ghost use Rattle.lk_val.specs.Values.{is_same_tuple};
 ghost use Rattle.std.specs.List.{list_all};
 ghost use Rattle.lk_types.specs.Dates.{is_row_dated};
 ghost use Rattle.lk_semantics.specs.DatedRows.{are_sources_dated};
+ghost use Rattle.lk_semantics.specs.Derived.{derived_rows, sources_of};
+ghost use Rattle.lk_semantics.specs.Reading.{reads_itself};
+ghost use Rattle.lk_types.specs.declared.model.Model.{Model};
+ghost use Rattle.lk_types.specs.declared.rows.Tables.{Tables};
 ghost use Rattle.lk_types.specs.declared.rows.Sources.{Sources};
-ghost use Rattle.lk_semantics.specs.Joins.{joined_rows, IsClosedUnderNeed, needed_joins};
+ghost use Rattle.lk_semantics.specs.Joins.{joined_rows, numbers_below, IsClosedUnderNeed, needed_joins};
 ghost use Rattle.lk_types.specs.Expressions.{has_number};
 ghost use Rattle.lk_semantics.specs.Measures.{Entry, groups_of, pairs_of};
 ghost use Rattle.lk_types.specs.declared.answer.GivenRow.{GivenRow};
@@ -52,4 +56,11 @@ pub fn determined_views_are_least()
 /// The joined rows of tables whose days and moments are of the years 1 to 9999 are so too. A law: it computes nothing.
 pub fn joined_rows_are_dated()
     ensures { (x : Explore) (s : Sources) (joins : List ℕ) → are_sources_dated s ≡ true → list_all is_row_dated (joined_rows x s joins) ≡ true }
+{}
+
+/// Where no derived table reads itself, the rows of each derived table are the answer of its query over the stored
+/// tables and the rows of all derived tables. A law: it computes nothing.
+pub fn derived_rows_are_whole()
+    ensures { (m : Model) (t : Tables) → list_all (λ d. not (reads_itself m d)) (numbers_below (length m.derived)) ≡ true
+        → (sources_of m t).derived ≡ map (derived_rows m (sources_of m t)) m.derived }
 {}

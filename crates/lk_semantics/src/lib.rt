@@ -11,6 +11,6 @@ pub use examples::{
     shop_queries_are_answered, tables_are_joined, the_shop_is_resolved, wrong_definitions_differ,
 };
 pub use laws::{
-    answers_are_isolated, determined_views_are_least, each_row_has_one_group,
-    joined_rows_are_dated, needed_joins_are_least, pairs_are_a_set,
+    answers_are_isolated, derived_rows_are_whole, determined_views_are_least,
+    each_row_has_one_group, joined_rows_are_dated, needed_joins_are_least, pairs_are_a_set,
 };

@@ -12,6 +12,9 @@ pub returns-clause-of_items : goal.returns-clause-of_items
 unfolding gcd fits_128 reduced frac_add frac_mul frac_div rounded number_of from_year_one day_of_moment second_of_moment year_of month_of day_of_month
 returns-clause-of_items c = refl
 
+pub returns-clause-there_with_items : goal.returns-clause-there_with_items
+returns-clause-there_with_items c = refl
+
 pub returns-clause-by_price_total : goal.returns-clause-by_price_total
 unfolding gcd fits_128 reduced frac_add frac_mul frac_div rounded number_of from_year_one day_of_moment second_of_moment year_of month_of day_of_month
 returns-clause-by_price_total c = refl
