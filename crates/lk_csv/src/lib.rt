@@ -8,6 +8,3 @@ mod writing;
 pub use laws::written_records_read_back;
 pub use reading::read_records;
 pub use writing::write_record;
-
-#[cfg(test)]
-mod tests;

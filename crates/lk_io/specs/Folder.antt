@@ -6,7 +6,6 @@ use Rattle.std.specs.Cmp.Lexicographic.{slice_cmp, pointwise}
 use Rattle.std.specs.Ordering.{nat_cmp}
 use Rattle.std.specs.List.Sorted.{IsSortedByKey, IsStableByKey, IsPermutation}
 use Rattle.lk_io.specs.declared.files.File.{File}
-use Rattle.lk_io.specs.declared.files.TheConstants.{FILE_LIMIT}
 
 -- the files' paths
 abbrev pub paths_of : List File → List (List ℕ)
@@ -28,9 +27,9 @@ body_of path files = option_map (λ file. file.body) (find (is_at path) files)
 abbrev pub IsListed : List ℕ → List File → Type 0
 IsListed path files = IsAmong (paths_of files) path
 
--- the file at this path is larger than a file may be
+-- the file at this path has more than 67,108,864 bytes
 abbrev pub IsBig : List ℕ → List File → Type 0
-IsBig path files = IsSomeAnd (body_of path files) (λ body. FILE_LIMIT < length body)
+IsBig path files = IsSomeAnd (body_of path files) (λ body. 67108864 < length body)
 
 -- the files in order of their paths by bytes, those of one path in the order in which they were given
 pub record IsInOrder (given ordered : List File) : Type 0 where

@@ -43,7 +43,7 @@ pub trait Files {
         requires { IfSome (told self.old) (λ files. IsListed path.now files) }
         ensures bytes { IfOk result (λ bytes.
             IfSome (told self.old) (λ files. body_of path.now files ≡ Some bytes)) }
-        ensures small { IfOk result (λ bytes. length bytes ≤ FILE_LIMIT) }
+        ensures small { IfOk result (λ bytes. length bytes ≤ 67108864) }
         ensures too_big { IsErrOf result FileFault.TooBig →
             IfSome (told self.old) (λ files. IsBig path.now files) }
         ensures same { told self.new ≡ told self.old }

@@ -154,7 +154,7 @@ fn read_within<R: rt::Files>(
     place: &str,
     most: usize,
 ) -> io::Result<Option<Vec<u8>>>
-    requires { most ≤ FILE_LIMIT }
+    requires { most ≤ 67108864 }
     ensures { IfOk result (λ body. IfSome body (λ bytes. vec_len bytes ≤ most)) }
 {
     // One byte more shows that the file is longer, and the read that finds its end wants room too.
@@ -174,7 +174,7 @@ fn read_file<R: rt::Files>(
     root: &str,
     path: &str,
 ) -> io::Result<Option<Vec<u8>>>
-    ensures { IfOk result (λ body. IfSome body (λ bytes. vec_len bytes ≤ FILE_LIMIT)) }
+    ensures { IfOk result (λ body. IfSome body (λ bytes. vec_len bytes ≤ 67108864)) }
 {
     let place = place_of(rt, alloc, root, path)?;
     let metadata = fs::symlink_metadata(rt, place.as_str())?;
@@ -213,7 +213,7 @@ impl<R: rt::Files + AllocGlobal + Clone + Drop> Files for FolderFiles<R> {
     }
 
     fn read(&mut self, alloc: Global, path: &Text) -> Result<Bytes, FileFault>
-        ensures small { IfOk result (λ bytes. length bytes ≤ FILE_LIMIT) }
+        ensures small { IfOk result (λ bytes. length bytes ≤ 67108864) }
         ensures cause { HasFileCause (folder_faults self.old) (folder_faults self.new) result }
 
         ensures counted { IsErrOf result FileFault.Failed →
@@ -226,114 +226,5 @@ impl<R: rt::Files + AllocGlobal + Clone + Drop> Files for FolderFiles<R> {
             Ok(None) => Err(FileFault::TooBig),
             Err(error) => Err(self.fault_of(error)),
         }
-    }
-}
-
-#[cfg(test)]
-mod tests {
-    use super::*;
-    use std::rt::Files as _;
-    use std::test::Fail;
-    use std::{env, process};
-
-    // A new folder of this name for temporary files, with a subfolder `views`.
-    fn made_folder(rt: &HostRuntime, name: &str) -> Result<Text, Fail> {
-        let above = env::temp_dir(rt)?;
-        let id = process::id(rt.process());
-        let folder = format!(in rt.alloc(); "{}/lk_io-{name}-{id}", above.as_str())?;
-        let views = format!(in rt.alloc(); "{folder}/views")?;
-        fs::create_dir_all(rt, views.as_str())?;
-        Ok(Text::from_string(folder))
-    }
-
-    fn path_of(rt: &HostRuntime, folder: &Text, name: &str) -> Result<Text, Fail> {
-        Ok(joined(rt.alloc(), folder.as_str(), name)?)
-    }
-
-    fn read_text(
-        files: &mut FolderFiles<HostRuntime>,
-        alloc: Global,
-        name: &str,
-    ) -> Result<Bytes, FileFault> {
-        let path = Text::from_str(alloc, name)?;
-        files.read(alloc, &path)
-    }
-
-    #[test]
-    fn lists_and_reads_the_files_below(rt: HostRuntime) -> Result<(), Fail> {
-        let folder = made_folder(&rt, "read")?;
-        for name in ["views/b", "model", "views/a"] {
-            fs::write(&rt, path_of(&rt, &folder, name)?.as_str(), name)?;
-        }
-        let mut files = FolderFiles::at(rt.clone()?, folder.copy(rt.alloc())?);
-        let paths = files.list(rt.alloc())?;
-        let wanted = ["model", "views/a", "views/b"];
-        assert_eq!(rt; paths.len(), wanted.len());
-        for (path, name) in paths.as_slice().iter().zip(wanted) {
-            assert_eq!(rt; path.as_str(), name);
-        }
-        for name in wanted {
-            assert_eq!(rt;
-                read_text(&mut files, rt.alloc(), name)?.as_slice(),
-                name.as_bytes()
-            );
-        }
-        fs::remove_dir_all(&rt, folder.as_str())?;
-        Ok(())
-    }
-
-    #[test]
-    fn follows_no_link_and_reads_nothing_outside(rt: HostRuntime) -> Result<(), Fail> {
-        let folder = made_folder(&rt, "links")?;
-        fs::write(&rt, path_of(&rt, &folder, "views/a")?.as_str(), "1")?;
-        rt.symlink("views/a", path_of(&rt, &folder, "linked")?.as_str())?;
-        rt.symlink("views", path_of(&rt, &folder, "more")?.as_str())?;
-        let mut files = FolderFiles::at(rt.clone()?, folder.copy(rt.alloc())?);
-        assert_eq!(rt; files.list(rt.alloc())?.len(), 1);
-        for name in [
-            "missing",
-            "linked",
-            "more/a",
-            "views",
-            "views/../views/a",
-            "/etc/hosts",
-            "",
-        ] {
-            let answer = read_text(&mut files, rt.alloc(), name);
-            assert!(rt; matches!(answer, Err(FileFault::Failed)), "at {name}");
-        }
-        assert_eq!(rt; files.faults(), 7);
-        fs::remove_dir_all(&rt, folder.as_str())?;
-        Ok(())
-    }
-
-    #[test]
-    fn a_file_over_the_limit_is_too_big(rt: HostRuntime) -> Result<(), Fail> {
-        let folder = made_folder(&rt, "sizes")?;
-        let mut files = FolderFiles::at(rt.clone()?, folder.copy(rt.alloc())?);
-        let path = Text::from_str(rt.alloc(), "large")?;
-        for (size, length) in [(67_108_864, Some(67_108_864)), (67_108_865, None)] {
-            let file = fs::create(&rt, path_of(&rt, &folder, "large")?.as_str())?;
-            file.set_len(size)?;
-            match files.read(rt.alloc(), &path) {
-                Ok(body) => assert_eq!(rt; Some(body.len()), length),
-                Err(fault) => {
-                    assert_eq!(rt; fault, FileFault::TooBig);
-                    assert_eq!(rt; None, length);
-                }
-            }
-        }
-        assert_eq!(rt; files.faults(), 0);
-        fs::remove_dir_all(&rt, folder.as_str())?;
-        Ok(())
-    }
-
-    #[test]
-    fn a_missing_folder_is_a_fault(rt: HostRuntime) -> Result<(), Fail> {
-        let folder = Text::from_str(rt.alloc(), "/no/such/folder")?;
-        let mut files = FolderFiles::at(rt.clone()?, folder);
-        assert!(rt; matches!(files.list(rt.alloc()), Err(FileFault::Failed)));
-        assert_eq!(rt; files.faults(), 1);
-        Ok(())
     }
 }

@@ -81,7 +81,7 @@ fn file_at<'a>(files: &'a [File], path: &Text) -> Option<&'a File>
 fn copy_body(alloc: Global, files: &[File], path: &Text) -> Result<Bytes, FileFault>
     requires { IsListed path.now files.now }
     ensures bytes { IfOk result (λ bytes. body_of path.now files.now ≡ Some bytes) }
-    ensures small { IfOk result (λ bytes. length bytes ≤ FILE_LIMIT) }
+    ensures small { IfOk result (λ bytes. length bytes ≤ 67108864) }
     ensures too_big { IsErrOf result FileFault.TooBig → IsBig path.now files.now }
     ensures big { IsBig path.now files.now → IsErrOf result FileFault.TooBig }
     ensures never { IsErrOf result FileFault.Failed → ⊥ }
@@ -119,7 +119,7 @@ impl Files for MemFiles {
     fn read(&mut self, alloc: Global, path: &Text) -> Result<Bytes, FileFault>
         requires { IsListed path.now self.old.files }
         ensures bytes { IfOk result (λ bytes. body_of path.now self.old.files ≡ Some bytes) }
-        ensures small { IfOk result (λ bytes. length bytes ≤ FILE_LIMIT) }
+        ensures small { IfOk result (λ bytes. length bytes ≤ 67108864) }
         ensures too_big { IsErrOf result FileFault.TooBig → IsBig path.now self.old.files }
         ensures same { self.new.files ≡ self.old.files }
         ensures cause { HasFileCause self.old.calls.faults self.new.calls.faults result }
@@ -133,87 +133,5 @@ impl Files for MemFiles {
             return Err(FileFault::Failed);
         }
         copy_body(alloc, self.files.as_slice(), path)
-    }
-}
-
-#[cfg(test)]
-mod tests {
-    use super::*;
-    use std::test::Fail;
-
-    fn file(alloc: Global, path: &str, body: &[u8]) -> Result<File, NoMemory> {
-        Ok(File {
-            path: Text::from_str(alloc, path)?,
-            body: Bytes::from_slice(alloc, body)?,
-        })
-    }
-
-    // The bodies of all listed files, one after the other.
-    fn read_listed<F: Files>(alloc: Global, folder: &mut F) -> Result<Bytes, FileFault> {
-        let paths = folder.list(alloc)?;
-        let mut bodies = Bytes::new(alloc);
-        for path in paths.as_slice() {
-            bodies.append(folder.read(alloc, path)?.as_slice())?;
-        }
-        Ok(bodies)
-    }
-
-    #[test]
-    fn lists_by_path_and_reads_the_first_file_of_a_path(rt: HostRuntime) -> Result<(), Fail> {
-        let mut given = Items::new(rt.alloc());
-        for (path, body) in [
-            ("views/b", b"1"),
-            ("model", b"2"),
-            ("views/a", b"3"),
-            ("model", b"4"),
-        ] {
-            given.push(file(rt.alloc(), path, body)?)?;
-        }
-        let mut folder = MemFiles::new(rt.alloc(), given, Items::new(rt.alloc()))?;
-        let paths = folder.list(rt.alloc())?;
-        let wanted = ["model", "model", "views/a", "views/b"];
-        assert_eq!(rt; paths.len(), wanted.len());
-        for (path, text) in paths.as_slice().iter().zip(wanted) {
-            assert_eq!(rt; path.as_str(), text);
-        }
-        let bodies = read_listed(rt.alloc(), &mut folder)?;
-        assert_eq!(rt; bodies.as_slice(), b"2231".as_slice());
-        Ok(())
-    }
-
-    #[test]
-    fn a_file_over_the_limit_is_too_big(rt: HostRuntime) -> Result<(), Fail> {
-        for (size, is_too_big) in [(67_108_864, false), (67_108_865, true)] {
-            let body = Bytes::from_vec(vec![in rt.alloc(); 7; size]?);
-            let path = Text::from_str(rt.alloc(), "large")?;
-            let given = Items::from_vec(vec![in rt.alloc(); File { path, body }]?);
-            let mut folder = MemFiles::new(rt.alloc(), given, Items::new(rt.alloc()))?;
-            let paths = folder.list(rt.alloc())?;
-            assert_eq!(rt; paths.len(), 1);
-            let answer = folder.read(rt.alloc(), &paths.as_slice()[0]);
-            assert_eq!(rt;
-                matches!(answer, Err(FileFault::TooBig)),
-                is_too_big,
-                "at {size}"
-            );
-            assert_eq!(rt; answer.is_ok(), !is_too_big, "at {size}");
-            assert_eq!(rt; folder.faults(), 0);
-        }
-        Ok(())
-    }
-
-    #[test]
-    fn the_chosen_calls_fail(rt: HostRuntime) -> Result<(), Fail> {
-        let given = Items::from_vec(vec![in rt.alloc(); file(rt.alloc(), "model", b"2")?]?);
-        let failing = Items::from_vec(vec![in rt.alloc(); 0, 2]?);
-        let mut folder = MemFiles::new(rt.alloc(), given, failing)?;
-        assert!(rt; matches!(folder.list(rt.alloc()), Err(FileFault::Failed)));
-        let paths = folder.list(rt.alloc())?;
-        assert_eq!(rt; paths.len(), 1);
-        let path = &paths.as_slice()[0];
-        assert!(rt; matches!(folder.read(rt.alloc(), path), Err(FileFault::Failed)));
-        assert_eq!(rt; folder.read(rt.alloc(), path)?.as_slice(), b"2".as_slice());
-        assert_eq!(rt; folder.faults(), 2);
-        Ok(())
     }
 }

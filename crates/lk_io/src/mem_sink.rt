@@ -91,23 +91,3 @@ impl Sink for MemSink {
         Ok(())
     }
 }
-
-#[cfg(test)]
-mod tests {
-    use super::*;
-    use std::test::Fail;
-
-    #[test]
-    fn holds_what_fits_and_nothing_of_a_failing_put(rt: HostRuntime) -> Result<(), Fail> {
-        let failing = Items::from_vec(vec![in rt.alloc(); 1]?);
-        let mut sink = MemSink::new(rt.alloc(), 8, failing)?;
-        assert_eq!(rt; sink.put(b"users"), Ok(()));
-        assert_eq!(rt; sink.put(b"-"), Err(Failed));
-        assert_eq!(rt; sink.held(), b"users".as_slice());
-        assert_eq!(rt; sink.put(b".csv"), Err(Failed));
-        assert_eq!(rt; sink.held(), b"users.cs".as_slice());
-        assert_eq!(rt; sink.put(b""), Ok(()));
-        assert_eq!(rt; sink.faults(), 2);
-        Ok(())
-    }
-}

@@ -79,25 +79,3 @@ impl Source for MemSource {
         Ok(count)
     }
 }
-
-#[cfg(test)]
-mod tests {
-    use super::*;
-    use std::test::Fail;
-
-    #[test]
-    fn gives_pieces_to_the_end_and_none_at_a_failing_call(rt: HostRuntime) -> Result<(), Fail> {
-        let bytes = Bytes::from_slice(rt.alloc(), b"model: shop")?;
-        let failing = Items::from_vec(vec![in rt.alloc(); 1]?);
-        let mut source = MemSource::new(bytes, failing);
-        let mut piece = [0; 8];
-        assert_eq!(rt; source.pull(&mut piece), Ok(8));
-        assert_eq!(rt; piece.as_slice(), b"model: s".as_slice());
-        assert_eq!(rt; source.pull(&mut piece), Err(Failed));
-        assert_eq!(rt; source.pull(&mut piece), Ok(3));
-        assert_eq!(rt; piece.as_slice(), b"hopel: s".as_slice());
-        assert_eq!(rt; source.pull(&mut piece), Ok(0));
-        assert_eq!(rt; source.faults(), 1);
-        Ok(())
-    }
-}

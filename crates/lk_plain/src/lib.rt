@@ -10,6 +10,3 @@ mod totals;
 pub use explore::{Bound, Explore, Field, Measure, Op, Pick};
 pub use laws::orders_are_answered;
 pub use query::{Table, answer};
-
-#[cfg(test)]
-mod tests;

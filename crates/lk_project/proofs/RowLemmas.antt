@@ -2,7 +2,8 @@
 use Rattle.std.proofs.Common.{◌≡◌, ℕ, suc, length, List, [], ◌∷◌, Option, Some, None, refl, ap, ◌∙◌}
 use Rattle.lk_types.specs.declared.schema.ColumnDef.{ColumnDef}
 use Rattle.lk_project.specs.Parts.{item_then}
-use Rattle.lk_project.specs.Rows.{row_of, cell_of}
+use Rattle.lk_cell.specs.CellValues.{cell_value}
+use Rattle.lk_project.specs.Rows.{row_of}
 
 item_then-none : {A : Type 0} (item : Option A) → item_then item None ≡ None
 item_then-none None = refl
@@ -14,5 +15,5 @@ uneven_row [] [] h = absurd (h refl)
 uneven_row [] (field ∷ fields) h = refl
 uneven_row (column ∷ columns) [] h = refl
 uneven_row (column ∷ columns) (field ∷ fields) h =
-    ap (item_then (cell_of column.kind field)) (uneven_row columns fields (λ e. h (ap suc e)))
-    ∙ item_then-none (cell_of column.kind field)
+    ap (item_then (cell_value column.kind field)) (uneven_row columns fields (λ e. h (ap suc e)))
+    ∙ item_then-none (cell_value column.kind field)

@@ -1,47 +1,22 @@
 -- The rows of a table, by the records of its data (lookd).
-use Rattle.std.specs.Prelude.{ℕ, Bool, not, ◌&&◌, ◌*◌, nat_le, if◌then◌else◌, List, [], ◌∷◌, map, length, Option, Some, None, Result, Ok, Err}
+use Rattle.std.specs.Prelude.{ℕ, Bool, not, ◌&&◌, ◌*◌, nat_le, if◌then◌else◌, List, [], ◌∷◌, map, length, Option, Some, None}
 use Rattle.std.specs.List.{list_any}
 use Rattle.std.specs.Cmp.Lexicographic.{pointwise}
-use Rattle.lk_val.specs.declared.num.Num.{Num}
-use Rattle.lk_val.specs.declared.num.NumFault.{NumFault}
 use Rattle.lk_val.specs.declared.value.Value.{Value}
-use Rattle.lk_val.specs.declared.value.Value.TheVariants as value
-use Rattle.lk_val.specs.Numbers.{num_of}
 use Rattle.lk_val.specs.Values.{is_same, is_null}
-use Rattle.lk_types.specs.declared.schema.Kind.{Kind}
-use Rattle.lk_types.specs.declared.schema.Kind.TheVariants.{Text, Number}
 use Rattle.lk_types.specs.declared.schema.ColumnDef.{ColumnDef}
 use Rattle.lk_types.specs.declared.schema.TableDef.{TableDef}
+use Rattle.lk_cell.specs.CellValues.{cell_value}
 use Rattle.lk_plain.specs.Rows.{cell_at}
-use Rattle.std.specs.Str.{is_utf8}
 use Rattle.lk_val.specs.Texts.{is_same_text}
 use Rattle.lk_val.specs.Distinct.{do_differ}
 use Rattle.lk_project.specs.Parts.{Fields, item_then, each}
-
--- ---- cells
-
--- a text of at most 4,096 bytes
-abbrev pub text_cell : List ℕ → Option Value
-text_cell field =
-    if is_utf8 field && nat_le (length field) 4096 then Some (value.Text field) else None
-
--- a number, if the field reads as one
-abbrev pub number_cell : Result Num NumFault → Option Value
-number_cell (Ok number) = Some (value.Num number)
-number_cell (Err fault) = None
-
--- the cell of a column with this kind: null where the field is empty. The first form has texts and numbers
-abbrev pub cell_of : Kind → List ℕ → Option Value
-cell_of kind [] = Some value.Null
-cell_of Text (c ∷ cs) = text_cell (c ∷ cs)
-cell_of Number (c ∷ cs) = number_cell (num_of (c ∷ cs))
-cell_of kind (c ∷ cs) = None
 
 -- the row of a record, which has a field for each column
 abbrev pub row_of : List ColumnDef → Fields → Option (List Value)
 row_of [] [] = Some []
 row_of (column ∷ columns) (field ∷ fields) =
-    item_then (cell_of column.kind field) (row_of columns fields)
+    item_then (cell_value column.kind field) (row_of columns fields)
 row_of columns fields = None
 
 -- ---- keys

@@ -17,6 +17,3 @@ mod view;
 
 pub use project::{Project, read_project};
 pub use view::{Content, Declared, View, read_view};
-
-#[cfg(test)]
-mod tests;

@@ -1,11 +1,11 @@
 -- Whether a path is listed, and the body at it.
-use Rattle.std.proofs.Common.{◌≡◌, ℕ, suc, arith, length, Bool, true, false, ◌||◌, cond, List, [], ◌∷◌, refl, sym, ap, ◌∙◌}
-use Rattle.std.specs.Prelude.{Option, Some, None, IfSome, map, option_map, find, option_and_then}
+use Rattle.std.proofs.Common.{◌≡◌, ℕ, suc, arith, Bool, true, false, ◌||◌, cond, List, [], ◌∷◌, refl, sym, ap, ◌∙◌}
+use Rattle.std.specs.Prelude.{Option, Some, None, IfSome, option_map, find, option_and_then}
 use Rattle.std.specs.List.{IsAmong, list_any}
 use Rattle.std.specs.Cmp.Lexicographic.{bytes_decides, nat_list_eq_equiv}
 use Rattle.std.proofs.lemmas.Bool.{false≢true}
 use Rattle.lk_val.specs.Texts.{is_same_text}
-use Rattle.lk_io.specs.Folder.{paths_of, body_of, is_at, IsListed}
+use Rattle.lk_io.specs.Folder.{paths_of, is_at, IsListed}
 use Rattle.lk_io.specs.declared.files.File.{File}
 use Rattle.lk_serve.specs.Projects.{small_body, if_small}
 

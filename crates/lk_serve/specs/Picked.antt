@@ -2,8 +2,6 @@
 use Rattle.std.specs.Prelude.{ℕ, All, List, [], ◌∷◌, position, Option, Some, None}
 use Rattle.lk_val.specs.Texts.{is_same_text}
 use Rattle.lk_plain.specs.declared.explore.Explore.{Explore}
-use Rattle.lk_plain.specs.declared.explore.Field.{Field}
-use Rattle.lk_plain.specs.declared.explore.Measure.{Measure}
 use Rattle.lk_plain.specs.declared.explore.Pick.{Pick}
 use Rattle.lk_plain.specs.declared.explore.Pick.TheVariants.{Dim, Mea}
 use Rattle.lk_plain.specs.Answers.{IsPick}

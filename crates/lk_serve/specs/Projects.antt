@@ -3,7 +3,6 @@ use Rattle.std.specs.Prelude.{ℕ, ◌-◌, nat_le, Bool, if◌then◌else◌, L
 use Rattle.lk_val.specs.Texts.{is_same_text}
 use Rattle.lk_io.specs.Folder.{paths_of, body_of}
 use Rattle.lk_io.specs.declared.files.File.{File}
-use Rattle.lk_io.specs.declared.files.TheConstants.{FILE_LIMIT}
 use Rattle.lk_project.specs.Projects.{project_from}
 use Rattle.lk_project.specs.Views.{view_of}
 use Rattle.lk_project.specs.declared.project.Project.{Project}
@@ -22,10 +21,11 @@ the_only (path ∷ other ∷ paths) = None
 abbrev pub model_path : List (List ℕ) → Option (List ℕ)
 model_path paths = the_only (filter is_model paths)
 
+-- a body of at most 67,108,864 bytes
 abbrev pub if_small : List ℕ → Option (List ℕ)
-if_small body = if nat_le (length body) FILE_LIMIT then Some body else None
+if_small body = if nat_le (length body) 67108864 then Some body else None
 
--- the body of a file that is listed and has at most 67,108,864 bytes
+-- the body of a file that is listed and is so small
 abbrev pub small_body : List File → List ℕ → Option (List ℕ)
 small_body files path = option_and_then if_small (body_of path files)
 

@@ -4,13 +4,12 @@
 mod asked;
 mod body;
 mod folder;
+mod laws;
 mod picked;
 mod replies;
 mod serve;
 mod stops;
 mod words;
 
+pub use laws::replies_are_known;
 pub use serve::run;
-
-#[cfg(test)]
-mod tests;

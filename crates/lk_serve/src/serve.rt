@@ -4,7 +4,7 @@ ghost use Rattle.lk_io.specs.Causes.{Rose};
 ghost use Rattle.lk_io.specs.Streams.{AppendsFront};
 ghost use Rattle.lk_plain.specs.Answers.{IsPick};
 ghost use Rattle.lk_project.specs.Projects.{IsNumbered};
-ghost use Rattle.lk_serve.specs.Outcomes.{reply_of, query_reply, asked_fields, bound_reply};
+ghost use Rattle.lk_serve.specs.Outcomes.{asked_fields, bound_reply, known_reply, query_reply};
 ghost use Rattle.lk_serve.specs.Picked.{bound_by};
 ghost use Rattle.lk_serve.specs.Replies.{ComesUnread, code_of, usage_reply};
 ghost use Rattle.lk_serve.specs.Runs.{IsStatus, IsUsageStatus, IsWritten, LeavesInput, NeverFall, StopsBefore, is_stopped};
@@ -43,14 +43,15 @@ pub fn run<F: Files, I: Source, O: Sink>(
     input: &mut I,
     out: &mut O,
 ) -> u8
-    // Over files and an input that tell, the bytes written and the status are those of the reply.
+    // The bytes written and the status are those of the reply, where what it rests on is told: always for wrong
+    // words, with told files for a folder that is no project, and else with a told input too.
     ensures reply { is_stopped result ≡ false →
-        IfSome (F.told files.old) (λ told. IfSome (I.left input.old) (λ left.
-        IsWritten (O.held out.old) (O.held out.new) (reply_of words.now told left) result)) }
+        IfSome (known_reply words.now (F.told files.old) (I.left input.old)) (λ reply.
+        IsWritten (O.held out.old) (O.held out.new) reply result) }
     // After a fault of the output a front of them went out; where the run stopped before, nothing did.
     ensures cut { result ≡ 4 →
-        IfSome (F.told files.old) (λ told. IfSome (I.left input.old) (λ left.
-        AppendsFront (O.held out.old) (O.held out.new) (reply_of words.now told left).body)) }
+        IfSome (known_reply words.now (F.told files.old) (I.left input.old)) (λ reply.
+        AppendsFront (O.held out.old) (O.held out.new) reply.body) }
     ensures silent { StopsBefore result → O.held out.new ≡ O.held out.old }
 
     // A fault of an object comes only where its count rose in this call.
@@ -92,7 +93,7 @@ fn write<O: Sink>(reply: &Reply, out: &mut O) -> u8
 }
 
 // The reply to the words, or why there is none.
-#[tactic(auto, unfolding(crate::specs::Outcomes::reply_of))]
+#[tactic(auto, unfolding(crate::specs::Outcomes::known_reply))]
 fn reply_to<F: Files, I: Source>(
     alloc: Global,
     words: &[Text],
@@ -100,8 +101,7 @@ fn reply_to<F: Files, I: Source>(
     input: &mut I,
 ) -> Result<Reply, Stop>
     ensures reply { IfOk result (λ reply.
-        IfSome (F.told files.old) (λ told. IfSome (I.left input.old) (λ left.
-        reply ≡ reply_of words.now told left))) }
+        IfSome (known_reply words.now (F.told files.old) (I.left input.old)) (λ known. reply ≡ known)) }
     ensures files { HasStopCause Stop.Files (F.faults files.old) (F.faults files.new) result }
     ensures input { HasStopCause Stop.Input (I.faults input.old) (I.faults input.new) result }
     ensures usage { IfOk result (λ reply. reply.status ≡ Status.Usage → query_words words.now ≡ None) }

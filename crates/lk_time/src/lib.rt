@@ -13,6 +13,3 @@ pub use framing::frame;
 pub use laws::{calendar_is_civil, framing_again_is_framing};
 pub use range::is_in_years;
 pub use weekday::day_name;
-
-#[cfg(test)]
-mod tests;

@@ -7,7 +7,7 @@ use Rattle.std.specs.Ordering.{ordering_reverse}
 use Rattle.std.proofs.lemmas.Int.{ints, quot-rem, unsigned_abs-mul}
 use Rattle.std.proofs.lemmas.Nat.Gcd.{mod-eq-zero_of_dvd}
 use Rattle.std.proofs.lemmas.Cmp.{int_ranked, int_cmp_total, tied_itself}
-use Rattle.lk_val.specs.Fractions.{Fraction, IsReduced, gcd, reduced, fits_128, fraction, frac_add, frac_sub, frac_mul, frac_div, frac_neg, frac_cmp}
+use Rattle.lk_val.specs.Fractions.{Fraction, IsReduced, gcd, reduced, fits_128, fraction, frac_add, frac_sub, frac_mul, frac_div, frac_neg, frac_cmp, frac_of_sum}
 use Rattle.lk_val.proofs.GcdLaws.{gcd-is, same-below}
 use Rattle.lk_val.proofs.FractionOrder.{less_int, equal_int, greater_int}
 use Rattle.lk_val.proofs.FractionSteps.{both, reduced-is, positive-product}
@@ -291,6 +291,12 @@ cmp-value n d m e pd pe =
     ∙ cmp-turned (reduced m e) (record { n = n; d = d })
     ∙ ap ordering_reverse (cmp-same (reduced m e) (record { n = m; d = e }) (record { n = n; d = d }) (reduced-is m e pe).positive pe two)
     ∙ sym (cmp-turned (record { n = m; d = e }) (record { n = n; d = d }))
+
+-- numbers, as fractions over 10,000, compare as their counts
+pub cmp-counts : (a b : ℤ) → frac_cmp (frac_of_sum a) (frac_of_sum b) ≡ int_cmp a b
+cmp-counts a b =
+    let above : pos 0 <ℤ pos 10000 = omega (arith, ints) in
+    cmp-value a (pos 10000) b (pos 10000) above above ∙ cmp_product a b (pos 10000) above
 
 pub cmp-equal : (a b : Fraction) → IsReduced a → IsReduced b → frac_cmp a b ≡ Equal → a ≡ b
 cmp-equal a b ra rb e = reduced-unique a b ra rb (int_ranked (a.n *ℤ b.d) (b.n *ℤ a.d) Equal (sym e))

@@ -10,3 +10,5 @@ pub mod Cells
 pub mod Least
 pub mod Faults
 pub mod Decimals
+pub mod Memory
+pub mod ValueRefs

@@ -13,7 +13,7 @@ use Rattle.lk_val.specs.contracts.value.ValueOrd.TheImpl.{cmp-value}
 use Rattle.lk_val.specs.contracts.value.ValueOrd.TheImpl.Laws.{total-law}
 
 -- what the derived comparison computes is the order
-derived : (x y : Value) → cmp-value.it x y ≡ value_cmp x y
+pub derived : (x y : Value) → cmp-value.it x y ≡ value_cmp x y
 derived Null Null = refl
 derived Null (Text b) = refl
 derived Null (Num b) = refl

@@ -19,8 +19,21 @@ pub struct FaultLine {
 /// Why a model was not read: its first fault, or want of memory.
 #[derive(Debug, Drop)]
 pub enum ModelFault {
+    /// The first fault.
     Fault(FaultLine),
+    /// Want of memory.
     NoMemory,
+}
+
+impl From<NoMemory> for ModelFault {
+    ghost use Rattle.std.specs.Prelude.{◌≡◌};
+    ghost use Rattle.lk_val.specs.declared.fault.ModelFault.TheVariants as fault;
+
+    ghost from_gives = { λ _ e. e ≡ fault.NoMemory };
+
+    fn from(_: NoMemory) -> ModelFault {
+        ModelFault::NoMemory
+    }
 }
 
 impl FaultLine {

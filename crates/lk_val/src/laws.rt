@@ -4,7 +4,7 @@ ghost use Rattle.std.specs.Prelude.{◌≡◌, ◌<ℤ◌, ◌*ℤ◌, ◌≤◌
 ghost use Rattle.std.specs.Int.{IsGcd, w64};
 ghost use Rattle.std.specs.Ordering.{int_cmp, ordering_reverse};
 ghost use Rattle.std.specs.declared.cmp.Ordering.TheVariants.{Less, Equal};
-ghost use Rattle.lk_val.specs.Fractions.{Fraction, IsReduced, gcd, reduced, frac_add, frac_sub, frac_mul, frac_div, frac_neg, frac_cmp};
+ghost use Rattle.lk_val.specs.Fractions.{Fraction, IsReduced, gcd, reduced, frac_add, frac_sub, frac_mul, frac_div, frac_neg, frac_cmp, frac_of_sum};
 ghost use Rattle.lk_val.specs.Numbers.{num_of, number_text};
 ghost use Rattle.lk_val.specs.Decimals.{Decimal, IsDecimal, IsDecimalText, decimal_text, decimal_number};
 ghost use Rattle.lk_val.specs.declared.num.NumFault.TheVariants.{NotNumber};
@@ -34,6 +34,11 @@ pub fn fractions_are_ordered()
     ensures turned { (a b : Fraction) → frac_cmp b a ≡ ordering_reverse (frac_cmp a b) }
     ensures less { (a b c : Fraction) → IsReduced a → IsReduced b → IsReduced c
         → frac_cmp a b ≡ Less → frac_cmp b c ≡ Less → frac_cmp a c ≡ Less }
+{}
+
+/// Fractions over 10,000, as numbers and sums are, compare as their counts.
+pub fn fractions_of_counts_compare_as_counts()
+    ensures { (a b : ℤ) → frac_cmp (frac_of_sum a) (frac_of_sum b) ≡ int_cmp a b }
 {}
 
 /// Fractions add and multiply as a field does, wherever both sides are given, and the order is the sign of the

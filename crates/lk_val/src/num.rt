@@ -144,9 +144,9 @@ fn past_fourth(behind: &[u8]) -> &[u8]
 
 // The number with one more digit, or the cap where it is past that.
 fn push_digit(value: u64, digit: u8) -> u64
-    requires { value ≤ CAP }
-    ensures value { result ≡ min (10 * value + (digit - 48)) CAP }
-    ensures capped { result ≤ CAP }
+    requires { value ≤ 9223372036854775809 }
+    ensures value { result ≡ min (10 * value + (digit - 48)) 9223372036854775809 }
+    ensures capped { result ≤ 9223372036854775809 }
 {
     if value > CAP / 10 {
         CAP
@@ -156,8 +156,8 @@ fn push_digit(value: u64, digit: u8) -> u64
 }
 
 fn capped_value(whole: &[u8]) -> u64
-    ensures value { result ≡ min (value_from 0 whole.now) CAP }
-    ensures capped { result ≤ CAP }
+    ensures value { result ≡ min (value_from 0 whole.now) 9223372036854775809 }
+    ensures capped { result ≤ 9223372036854775809 }
 {
     let mut value = 0;
     for c in whole {
@@ -173,8 +173,8 @@ fn digit_behind(behind: &[u8], at: usize) -> u8
 }
 
 fn capped_magnitude(whole: &[u8], behind: &[u8]) -> u64
-    ensures value { result ≡ min (magnitude whole.now behind.now) CAP }
-    ensures capped { result ≤ CAP }
+    ensures value { result ≡ min (magnitude whole.now behind.now) 9223372036854775809 }
+    ensures capped { result ≤ 9223372036854775809 }
 {
     let one = push_digit(capped_value(whole), digit_behind(behind, 0));
     let two = push_digit(one, digit_behind(behind, 1));
@@ -183,8 +183,8 @@ fn capped_magnitude(whole: &[u8], behind: &[u8]) -> u64
 }
 
 fn signed(negative: bool, capped: u64) -> Result<Num, NumFault>
-    requires { capped ≤ CAP }
-    ensures { (size : ℕ) → capped ≡ min size CAP → result ≡ in_range negative size }
+    requires { capped ≤ 9223372036854775809 }
+    ensures { (size : ℕ) → capped ≡ min size 9223372036854775809 → result ≡ in_range negative size }
 {
     if negative {
         if capped == CAP {

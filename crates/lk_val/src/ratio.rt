@@ -3,8 +3,8 @@ ghost use Rattle.std.specs.Ordering.{nat_cmp};
 
 use std::cmp::Ordering;
 
-// The order of a / b and c / d by Euclid's steps: by the whole parts, or else by the rests turned over, the other
-// way round. No product is formed.
+/// The order of a / b and c / d by Euclid's steps: by the whole parts, or else by the rests turned over, the other
+/// way round. No product is formed.
 pub fn cmp_ratios(a: u128, b: u128, c: u128, d: u128) -> Ordering
     requires first { 0 < b }
     requires second { 0 < d }

@@ -34,6 +34,14 @@ impl Tuple {
         Tuple { values }
     }
 
+    /// The values as a list, which takes no memory.
+    pub fn into_values(self) -> Items<Value>
+        ensures { result ≡ self }
+    {
+        let Tuple { values } = self;
+        values
+    }
+
     /// The values, in order.
     pub fn as_slice(&self) -> &[Value]
         ensures { result.now ≡ self.now }

@@ -1,5 +1,5 @@
-use Rattle.std.proofs.Common.{◌∙◌, ap, sym, ◌≡◌}
-use Rattle.std.specs.Prelude.{nat_eq, Some}
+use Rattle.std.proofs.Common.{◌∙◌, ap, sym}
+use Rattle.std.specs.Prelude.{nat_eq}
 use Rattle.serde_json.proofs.Views.{members_len-members_view}
 use Rattle.lk_serve.specs.Asked.{is_single}
 use Rattle.lk_serve.proofs.asked.is_single.Goals as goal

@@ -3,7 +3,6 @@ use Rattle.std.specs.Prelude.{IfOk}
 use Rattle.lk_plain.specs.Answers as view
 use Rattle.lk_plain.specs.declared.explore.Bound.{Bound}
 use Rattle.lk_serve.specs.Replies.{table_reply}
-use Rattle.lk_serve.specs.declared.serve.TheConstants.{ROW_LIMIT}
 use Rattle.lk_serve.proofs.AnswerLaws.{answered_is}
 use Rattle.lk_serve.proofs.serve.reply_to_picks.Goals as goal
 
@@ -11,7 +10,7 @@ pub returns-clause-reply : goal.returns-clause-reply
 returns-clause-reply c =
     let x = c.args.project.now.explore in
     let names = c.args.names.now in
-    let bound : Bound = record { picks = c.args.picks; limit = ROW_LIMIT } in
+    let bound : Bound = record { picks = c.args.picks; limit = 500 } in
     let table : c.in_ok-table.table ≡ view.answer_of x bound c.args.project.now.rows =
     c.in_ok-table.ensures ∙ ap (view.answer_of x bound) c.as_slice.ensures in
     let same = ap (table_reply names) table ∙ sym (answered_is x names bound c.args.project.now.rows c.requires) in

@@ -1,0 +1,3 @@
+pub mod DayLaws
+pub mod MomentLaws
+pub mod CellLaws

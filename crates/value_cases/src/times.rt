@@ -1,0 +1,68 @@
+ghost use Rattle.std.specs.Prelude.{◌≡◌, false};
+ghost use Rattle.lk_types.specs.Timeframes.{is_same_frame};
+ghost use Rattle.lk_types.specs.declared.schema.Frame.TheVariants as frame_is;
+ghost use Rattle.lk_time.specs.FrameValues.{IsInYears};
+
+use crate::line::{said, yes_or_no};
+use crate::values::{frame_of, value_of};
+use crate::wrong::Wrong;
+use lk_time::NotHad;
+use lk_types::{Frame, Shape, print_cell};
+use lk_val::{Cell, Text, Value};
+use std::alloc::Global;
+
+/// The timeframe of a value; a day of the week by its name.
+pub fn frame(alloc: Global, frame: &str, word: &str) -> Result<Text, Wrong> {
+    let value = value_of(alloc, word)?;
+    let to = frame_of(frame)?;
+    if !lk_time::is_in_years(&value) {
+        return Err(Wrong::Case);
+    }
+    let framed = lk_time::frame(&value, to);
+    if to == Frame::DayOfWeek {
+        show_weekday(alloc, &framed)
+    } else {
+        show(alloc, framed)
+    }
+}
+
+/// A timeframe of a value, brought to a coarser one; `T1` where that isn't had from it.
+pub fn coarsen(alloc: Global, fine: &str, coarse: &str, word: &str) -> Result<Text, Wrong> {
+    let value = value_of(alloc, word)?;
+    let fine = frame_of(fine)?;
+    let coarse = frame_of(coarse)?;
+    if fine == Frame::DayOfWeek || !lk_time::is_in_years(&value) {
+        return Err(Wrong::Case);
+    }
+    match coarser(&value, fine, coarse) {
+        Ok(framed) => show(alloc, framed),
+        Err(NotHad::T1) => said(alloc, "T1"),
+    }
+}
+
+fn coarser(value: &Value, fine: Frame, coarse: Frame) -> Result<Value, NotHad>
+    requires in_years { IsInYears value.now }
+    requires no_weekday { is_same_frame fine frame_is.DayOfWeek ≡ false }
+{
+    lk_time::coarsen(fine, coarse, &lk_time::frame(value, fine))
+}
+
+/// Whether a value is null, or a day or moment of the years 1 to 9999.
+pub fn is_in_years(alloc: Global, word: &str) -> Result<Text, Wrong> {
+    let value = value_of(alloc, word)?;
+    yes_or_no(alloc, lk_time::is_in_years(&value))
+}
+
+fn show(alloc: Global, value: Value) -> Result<Text, Wrong> {
+    if let Value::Null = value {
+        return said(alloc, "null");
+    }
+    Ok(print_cell(alloc, &Cell::Value(value), &Shape::Plain)?)
+}
+
+fn show_weekday(alloc: Global, value: &Value) -> Result<Text, Wrong> {
+    match value {
+        Value::Day(_) if lk_time::is_in_years(value) => said(alloc, lk_time::day_name(value)),
+        _ => said(alloc, "null"),
+    }
+}

@@ -1,0 +1,94 @@
+use crate::fractions::fraction_of;
+use crate::line::{bytes_of, said};
+use crate::wrong::Wrong;
+use lk_cell::read_cell;
+use lk_types::{Frame, Kind, Shape, print_cell};
+use lk_val::{Cell, Items, Text, Value};
+use std::alloc::Global;
+
+/// What a cell of a kind reads as, printed; `null`, or `refused` where it doesn't read. A text prints its length.
+pub fn read(alloc: Global, kind: &str, text: &str) -> Result<Text, Wrong> {
+    let cell = bytes_of(alloc, text)?;
+    match read_cell(alloc, kind_of(kind)?, cell.as_slice())? {
+        None => said(alloc, "refused"),
+        Some(Value::Null) => said(alloc, "null"),
+        Some(value) => Ok(print_cell(alloc, &Cell::Value(value), &Shape::Plain)?),
+    }
+}
+
+/// A cell of an answer in the printed form of a shape.
+pub fn print(alloc: Global, shape: &str, cell: &str) -> Result<Text, Wrong> {
+    let cell = cell_of(alloc, cell)?;
+    let shape = shape_of(alloc, shape)?;
+    Ok(print_cell(alloc, &cell, &shape)?)
+}
+
+/// The cell that a word writes: `count N`, `sum N` and `fraction N/D` by numbers, or a value.
+pub fn cell_of(alloc: Global, word: &str) -> Result<Cell, Wrong> {
+    match word.split_once(' ').unwrap_or((word, "")) {
+        ("count", text) => Ok(Cell::Count(text.parse::<u64>().or(Err(Wrong::Case))?)),
+        ("sum", text) => Ok(Cell::Sum(text.parse::<i128>().or(Err(Wrong::Case))?)),
+        ("fraction", text) => Ok(Cell::Frac(fraction_of(text)?)),
+        _ => Ok(Cell::Value(value_of(alloc, word)?)),
+    }
+}
+
+/// The value that a word writes: `null`, or a kind and a cell. `day number N` and `moment number N` count from 1970.
+pub fn value_of(alloc: Global, word: &str) -> Result<Value, Wrong> {
+    let (kind, cell) = word.split_once(' ').unwrap_or((word, ""));
+    match (kind, cell.strip_prefix("number ")) {
+        ("null", _) => Ok(Value::Null),
+        ("text", _) => Ok(Value::Text(Text::from_str(alloc, cell)?)),
+        ("day", Some(number)) => Ok(Value::Day(number.parse::<i32>().or(Err(Wrong::Case))?)),
+        ("moment", Some(number)) => {
+            Ok(Value::Moment(number.parse::<i64>().or(Err(Wrong::Case))?))
+        }
+        _ => read_cell(alloc, kind_of(kind)?, cell.as_bytes())?.ok_or(Wrong::Case),
+    }
+}
+
+fn kind_of(word: &str) -> Result<Kind, Wrong> {
+    match word {
+        "text" => Ok(Kind::Text),
+        "number" => Ok(Kind::Number),
+        "yesno" => Ok(Kind::Truth),
+        "day" => Ok(Kind::Day),
+        "moment" => Ok(Kind::Moment),
+        _ => Err(Wrong::Case),
+    }
+}
+
+// `plain`, the bounds of a tier as `tier 0 10 20`, or a timeframe.
+fn shape_of(alloc: Global, word: &str) -> Result<Shape, Wrong> {
+    match word.split_once(' ').unwrap_or((word, "")) {
+        ("plain", _) => Ok(Shape::Plain),
+        ("tier", bounds) => Ok(Shape::Tier(bounds_of(alloc, bounds)?)),
+        _ => Ok(Shape::Frame(0, frame_of(word)?)),
+    }
+}
+
+fn bounds_of(alloc: Global, words: &str) -> Result<Items<i64>, Wrong> {
+    let mut bounds = Items::new(alloc);
+    for word in words.split(' ') {
+        bounds.push(word.parse::<i64>().or(Err(Wrong::Case))?)?;
+    }
+    Ok(bounds)
+}
+
+/// The timeframe of a name.
+pub fn frame_of(word: &str) -> Result<Frame, Wrong> {
+    match word {
+        "raw" => Ok(Frame::Raw),
+        "time" => Ok(Frame::Time),
+        "date" => Ok(Frame::Date),
+        "week" => Ok(Frame::Week),
+        "month" => Ok(Frame::Month),
+        "quarter" => Ok(Frame::Quarter),
+        "year" => Ok(Frame::Year),
+        "hour_of_day" => Ok(Frame::HourOfDay),
+        "day_of_week" => Ok(Frame::DayOfWeek),
+        "day_of_month" => Ok(Frame::DayOfMonth),
+        "month_num" => Ok(Frame::MonthNum),
+        _ => Err(Wrong::Case),
+    }
+}
