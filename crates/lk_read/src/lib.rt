@@ -18,6 +18,3 @@ pub use file::read_file;
 pub use print::print_tree;
 pub use read_fault::{ReadFault, a_text_has_one_fault};
 pub use tree::{Entries, Entry, Item, Node, Tree};
-
-#[cfg(test)]
-mod tests;
