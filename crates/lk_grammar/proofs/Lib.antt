@@ -5,7 +5,6 @@ pub mod StepLaws
 pub mod MachineLaws
 pub mod TokenLaws
 pub mod WordLaws
-pub mod NameLaws
 pub mod LiteralLaws
 pub mod NumberLaws
 pub mod ListedLaws

@@ -9,4 +9,3 @@ pub mod Tokens
 pub mod Listed
 pub mod Literals
 pub mod Numbers
-pub mod Names

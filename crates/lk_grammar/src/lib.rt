@@ -6,7 +6,6 @@ mod judging;
 mod lexer;
 mod lists;
 mod literals;
-mod names;
 mod numbers;
 mod places;
 mod stack;
@@ -18,10 +17,6 @@ pub use judging::{judge, judge_nested};
 pub use lexer::{Lexer, read_tokens};
 pub use lists::listed;
 pub use literals::{Literals, Token, read_words_and_literals};
-pub use names::{name_but, names_are_no_keywords};
 pub use numbers::{Numbers, UnsignedNumbers, number, numbers_are_literals, unsigned_number};
 pub use places::{Machine, machines_find_places};
 pub use word::{Word, first_word, is_char, read_words};
-
-#[cfg(test)]
-mod tests;

@@ -17,7 +17,7 @@ module _ (most : ℕ) (text : List ℕ) where
   answers_found (Ok tree) h = found most text (lines tree) h
   answers_found (Err why) h = tt
 
-  ok_lines : (x y : List Line) (z : Result (List Line) ReadFault) → z ≡ Ok x → z ≡ Ok y → x ≡ y
+  pub ok_lines : (x y : List Line) (z : Result (List Line) ReadFault) → z ≡ Ok x → z ≡ Ok y → x ≡ y
   ok_lines x y z p q = cc
 
   pub answers_only : (answer : Result Outline ReadFault) → GivesLines answer (read_lines most text) → IfOk answer (λ tree. (other : Outline) → IsFile most text other → other ≡ tree)

@@ -12,6 +12,7 @@ pub mod OneFault
 pub mod LinesLaws
 pub mod OutlineLaws
 pub mod Answered
+pub mod OneOutcome
 pub mod Valid
 pub mod RoundTrip
 pub mod Examples

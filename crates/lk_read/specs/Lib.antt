@@ -13,3 +13,4 @@ pub mod TreeOutline
 pub mod TreeFalls
 pub mod BreaksOff
 pub mod Faults
+pub mod Outcome

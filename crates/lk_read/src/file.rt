@@ -1,5 +1,6 @@
-ghost use Rattle.std.specs.Prelude.{◌≡◌, ◌<◌, ◌^◌, List, length, IfOk, IfErr, Ok, Err};
+ghost use Rattle.std.specs.Prelude.{◌≡◌, ◌<◌, ◌^◌, List, length, IfOk, IfErr, IfSome, Ok, Err};
 ghost use Rattle.lk_read.specs.Faults.{AsFault};
+ghost use Rattle.lk_read.specs.Outcome.{IsOutcome, outcome_of};
 ghost use Rattle.lk_read.specs.Grammar.{IsFile};
 ghost use Rattle.lk_read.specs.Reading.{Gives, GivesLines, read_lines, read_from, end_at, start_end, word_end, whole, missing, with_plain};
 ghost use Rattle.lk_read.specs.Built.{first_of};
@@ -26,6 +27,8 @@ pub fn read_file(alloc: Global, bytes: &[u8]) -> Result<Tree, ReadFault>
     ensures complete { (tree : Outline) → IsFile 32 bytes.now tree → Gives result (Ok tree) }
     // What is refused spells no tree, and the answer is its first fault, unless memory ran out.
     ensures refused { IfErr result (λ why. AsFault 32 bytes.now why) }
+    // In a word: unless memory ran out, the answer is the outcome of the bytes, of which there is one.
+    ensures outcome { IfSome (outcome_of result) (IsOutcome 32 bytes.now) }
 {
     read_text(alloc, bytes)
 }

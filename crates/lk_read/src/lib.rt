@@ -16,8 +16,5 @@ mod value;
 
 pub use file::read_file;
 pub use print::print_tree;
-pub use read_fault::{ReadFault, a_text_has_one_fault};
+pub use read_fault::{ReadFault, a_text_has_one_fault, a_text_has_one_outcome};
 pub use tree::{Entries, Entry, Item, Node, Tree};
-
-#[cfg(test)]
-mod tests;

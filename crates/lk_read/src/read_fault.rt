@@ -2,6 +2,7 @@ ghost use Rattle.std.specs.Prelude.{◌≡◌, ◌⊎◌, ℕ, List};
 ghost use Rattle.lk_read.specs.Outline.{Outline};
 ghost use Rattle.lk_read.specs.Grammar.{IsFile};
 ghost use Rattle.lk_read.specs.Faults.{IsFaultOf};
+ghost use Rattle.lk_read.specs.Outcome.{Outcome, IsOutcome};
 
 use lk_val::NoMemory;
 
@@ -42,4 +43,11 @@ pub fn a_text_has_one_fault()
         → IsFaultOf most text fault → (tree : Outline) → IsFile most text tree → ⊥ }
     ensures some { (most : ℕ) (text : List ℕ)
         → ((tree : Outline) × IsFile most text tree) ⊎ ((fault : ReadFault) × IsFaultOf most text fault) }
+{}
+
+/// Each text has exactly one outcome: the tree that it spells, or its fault.
+pub fn a_text_has_one_outcome()
+    ensures one { (most : ℕ) (text : List ℕ) (outcome other : Outcome)
+        → IsOutcome most text outcome → IsOutcome most text other → outcome ≡ other }
+    ensures some { (most : ℕ) (text : List ℕ) → (outcome : Outcome) × IsOutcome most text outcome }
 {}

@@ -4,6 +4,3 @@
 mod utf8;
 
 pub use utf8::{Utf8, each_state_has_an_ending, is_whole, utf8_after, whole_characters_are_utf8};
-
-#[cfg(test)]
-mod tests;
