@@ -1,17 +1,4 @@
-pub mod LetterLaws
-pub mod LexSteps
-pub mod LexLaws
-pub mod TextLaws
-pub mod KindLaws
-pub mod KindsKnown
-pub mod FormFronts
-pub mod KindFronts
-pub mod NumberFronts
-pub mod TextFronts
-pub mod FrontLaws
 pub mod ParseSteps
 pub mod ParseSound
 pub mod ParseFound
 pub mod ReadLaws
-pub mod ScanSteps
-pub mod FrontTokens

@@ -3,19 +3,20 @@ use Rattle.std.proofs.Common.{◌≡◌, ℕ, zero, suc, ◌+◌, ◌≤◌, ◌
 use Rattle.std.specs.Prelude.{if◌then◌else◌, nat_le, max, nat_eq}
 use Rattle.std.proofs.lemmas.Bool.{false≢true}
 use Rattle.std.proofs.lemmas.Bool.Decides.{nat_tests}
-use Rattle.lk_expr_text.specs.declared.token.Keyword.{Keyword}
-use Rattle.lk_expr_text.specs.declared.token.Keyword.TheVariants as keyword
-use Rattle.lk_expr_text.specs.declared.token.Sign.TheVariants as sign
-use Rattle.lk_expr_text.specs.declared.token.Token.{Token}
-use Rattle.lk_expr_text.specs.declared.token.Token.TheVariants as token
-use Rattle.lk_expr_text.specs.declared.raw.Joint.{Joint}
-use Rattle.lk_expr_text.specs.declared.raw.Joint.TheVariants as joint
+use Rattle.lk_expr_token.specs.declared.token.Keyword.{Keyword}
+use Rattle.lk_expr_token.specs.declared.token.Keyword.TheVariants as keyword
+use Rattle.lk_expr_token.specs.declared.token.Sign.TheVariants as sign
+use Rattle.lk_expr_token.specs.declared.token.Token.{Token}
+use Rattle.lk_expr_token.specs.declared.token.Token.TheVariants as token
+use Rattle.lk_expr_tree.specs.declared.raw.Joint.{Joint}
+use Rattle.lk_expr_tree.specs.declared.raw.Joint.TheVariants as joint
 use Rattle.lk_expr_text.specs.declared.parser.Precedence.{Precedence}
 use Rattle.lk_expr_text.specs.declared.parser.Precedence.TheVariants as precedence
 use Rattle.lk_expr_text.specs.declared.parser.Nest.TheVariants as nest
-use Rattle.lk_expr_text.specs.Grammar.{Tree, Number, Text, Name, Column, Field, FieldOf, Truth, Null, Group, Call, Case, CaseElse, Negate, Chain, Compare, IsNull, In, Between, Like, Not, Args, one, more, Branches, when, then_when, joint_token, negated, print, print_args, print_branches, chain_level, stands, is_built, are_built, are_branches_built, nests, nests_args, nests_branches}
-use Rattle.lk_expr_text.specs.Parsing.{Parser, Below, joint_of, next_joint, joined, links, chain_in, first_arg, next_arg, after_comma, more_args, args_in, valued, then_value, branch_in, first_branch, next_branch, after_when, more_branches, branches_in, grouped, called, named, ended_else, case_end, atom_in, with_sign, denied, unary_in, sum_in, compared, null_test, listed, upto, bounded, list_in, liked, test_of, tested, not_in, whole_in, below}
-use Rattle.lk_expr_text.proofs.LexSteps.{same, both}
+use Rattle.lk_expr_tree.specs.Grammar.{Tree, Number, Text, Name, Column, Field, FieldOf, Truth, Null, Group, Call, Case, CaseElse, Negate, Chain, Compare, IsNull, In, Between, Like, Not, Args, one, more, Branches, when, then_when, joint_token, negated, print, print_args, print_branches, chain_level, stands, is_built, are_built, are_branches_built, nests, nests_args, nests_branches}
+use Rattle.lk_expr_tree.specs.Growing.{joined, first_arg, next_arg, valued, first_branch, next_branch, grouped, called, ended_else, with_sign, denied, compared, null_test, listed, upto, liked}
+use Rattle.lk_expr_text.specs.Parsing.{Parser, Below, joint_of, next_joint, links, chain_in, after_comma, more_args, args_in, then_value, branch_in, after_when, more_branches, branches_in, named, case_end, atom_in, unary_in, sum_in, bounded, list_in, test_of, tested, not_in, whole_in, below}
+use Rattle.lk_expr_token.proofs.LexSteps.{same, both}
 use Rattle.lk_expr_text.proofs.ParseSound.{Stands, weaker, level_at}
 
 -- ---- what may stand behind a tree

@@ -4,18 +4,19 @@ use Rattle.std.specs.Prelude.{nat_le, max}
 use Rattle.std.proofs.lemmas.Bool.Decides.{nat_tests}
 use Rattle.std.proofs.lemmas.Option.{some_pair_parts, same_Some}
 use Rattle.lk_types.specs.declared.expr.Comparison.{Comparison}
-use Rattle.lk_expr_text.specs.declared.token.Keyword.TheVariants as keyword
-use Rattle.lk_expr_text.specs.declared.token.Sign.TheVariants as sign
-use Rattle.lk_expr_text.specs.declared.token.Token.{Token}
-use Rattle.lk_expr_text.specs.declared.token.Token.TheVariants as token
-use Rattle.lk_expr_text.specs.declared.raw.Joint.{Joint}
-use Rattle.lk_expr_text.specs.declared.raw.Joint.TheVariants as joint
+use Rattle.lk_expr_token.specs.declared.token.Keyword.TheVariants as keyword
+use Rattle.lk_expr_token.specs.declared.token.Sign.TheVariants as sign
+use Rattle.lk_expr_token.specs.declared.token.Token.{Token}
+use Rattle.lk_expr_token.specs.declared.token.Token.TheVariants as token
+use Rattle.lk_expr_tree.specs.declared.raw.Joint.{Joint}
+use Rattle.lk_expr_tree.specs.declared.raw.Joint.TheVariants as joint
 use Rattle.lk_expr_text.specs.declared.parser.Precedence.{Precedence}
 use Rattle.lk_expr_text.specs.declared.parser.Precedence.TheVariants as precedence
 use Rattle.lk_expr_text.specs.declared.parser.Nest.TheVariants as nest
-use Rattle.lk_expr_text.specs.Grammar.{Tree, Number, Text, Name, Column, Field, FieldOf, Truth, Null, Group, Call, Case, CaseElse, Negate, Chain, Compare, IsNull, In, Between, Like, Not, Args, one, more, Branches, when, then_when, joint_token, negated, print, print_args, print_branches, chain_level, level_of, stands, is_built, are_built, are_branches_built, nests, nests_args, nests_branches}
-use Rattle.lk_expr_text.specs.Parsing.{Parsed, ParsedArgs, ParsedBranches, Parser, Branch, Below, joint_of, next_joint, behind_first, joined, go_on, links, chain_in, first_arg, next_arg, after_comma, go_on_args, more_args, args_in, valued, then_value, branch_in, first_branch, next_branch, after_when, go_on_branches, more_branches, branches_in, grouped, called, named, ended_else, case_end, leaf, atom_in, with_sign, denied, unary_in, sum_in, compared, null_test, listed, upto, bounded, list_in, liked, choice_in, test_of, tested, not_in, whole_in, below}
-use Rattle.lk_expr_text.proofs.LexSteps.{together, no_some}
+use Rattle.lk_expr_tree.specs.Grammar.{Tree, Number, Text, Name, Column, Field, FieldOf, Truth, Null, Group, Call, Case, CaseElse, Negate, Chain, Compare, IsNull, In, Between, Like, Not, Args, one, more, Branches, when, then_when, joint_token, negated, print, print_args, print_branches, chain_level, level_of, stands, is_built, are_built, are_branches_built, nests, nests_args, nests_branches}
+use Rattle.lk_expr_tree.specs.Growing.{Parsed, ParsedArgs, ParsedBranches, Branch, joined, first_arg, next_arg, valued, first_branch, next_branch, grouped, called, ended_else, leaf, with_sign, denied, compared, null_test, listed, upto, liked}
+use Rattle.lk_expr_text.specs.Parsing.{Parser, Below, joint_of, next_joint, behind_first, go_on, links, chain_in, after_comma, go_on_args, more_args, args_in, then_value, branch_in, after_when, go_on_branches, more_branches, branches_in, named, case_end, atom_in, unary_in, sum_in, bounded, list_in, choice_in, test_of, tested, not_in, whole_in, below}
+use Rattle.lk_expr_token.proofs.LexSteps.{together, no_some}
 
 -- ---- trees that stand at a level
 

@@ -5,13 +5,14 @@ use Rattle.std.proofs.lemmas.Bool.Decides.{nat_tests}
 use Rattle.std.proofs.lemmas.Option.{same_Some}
 use Rattle.std.proofs.lemmas.Result.{IfOk-weaker}
 use Rattle.std.proofs.lemmas.List.{append-nil}
-use Rattle.lk_expr_text.specs.declared.token.Token.{Token}
-use Rattle.lk_expr_text.specs.declared.raw.RawExpr.{RawExpr}
-use Rattle.lk_expr_text.specs.Tokens.{IsSpelled}
-use Rattle.lk_expr_text.specs.Grammar.{Tree, print, level_of, is_built, IsExprText}
-use Rattle.lk_expr_text.specs.RawCode.{tree_of}
-use Rattle.lk_expr_text.specs.Parsing.{Parsed, all_of, tree_in, whole_in, below}
-use Rattle.lk_expr_text.proofs.LexSteps.{both, together, no_some}
+use Rattle.lk_expr_token.specs.declared.token.Token.{Token}
+use Rattle.lk_expr_tree.specs.declared.raw.RawExpr.{RawExpr}
+use Rattle.lk_expr_token.specs.Tokens.{IsSpelled}
+use Rattle.lk_expr_tree.specs.Grammar.{Tree, print, level_of, is_built, IsExprText}
+use Rattle.lk_expr_tree.specs.RawCode.{tree_of}
+use Rattle.lk_expr_tree.specs.Growing.{Parsed}
+use Rattle.lk_expr_text.specs.Parsing.{all_of, tree_in, whole_in, below}
+use Rattle.lk_expr_token.proofs.LexSteps.{both, together, no_some}
 use Rattle.lk_expr_text.proofs.ParseSound.{IsRead, tree_read}
 use Rattle.lk_expr_text.proofs.ParseFound.{tree_found}
 

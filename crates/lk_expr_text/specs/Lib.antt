@@ -1,11 +1,1 @@
-pub mod Tokens
-pub mod Lexing
-pub mod Grammar
-pub mod RawCode
-pub mod Calls
-pub mod TokenKinds
-pub mod TokenFronts
-pub mod KindForms
-pub mod Quoting
 pub mod Parsing
-pub mod ParsedCode

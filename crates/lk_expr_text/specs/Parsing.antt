@@ -1,29 +1,19 @@
 -- The tree in front of some tokens, and the tokens behind it: from the left, by what comes first.
 use Rattle.std.specs.Prelude.{ℕ, zero, suc, Bool, true, false, List, [], ◌∷◌, Option, Some, None}
-use Rattle.lk_types.specs.declared.expr.Comparison.{Comparison}
-use Rattle.lk_expr_text.specs.declared.token.Keyword.TheVariants as keyword
-use Rattle.lk_expr_text.specs.declared.token.Sign.TheVariants as sign
-use Rattle.lk_expr_text.specs.declared.token.Token.{Token}
-use Rattle.lk_expr_text.specs.declared.token.Token.TheVariants as token
-use Rattle.lk_expr_text.specs.declared.raw.Joint.{Joint}
-use Rattle.lk_expr_text.specs.declared.raw.Joint.TheVariants as joint
+use Rattle.lk_expr_token.specs.declared.token.Keyword.TheVariants as keyword
+use Rattle.lk_expr_token.specs.declared.token.Sign.TheVariants as sign
+use Rattle.lk_expr_token.specs.declared.token.Token.{Token}
+use Rattle.lk_expr_token.specs.declared.token.Token.TheVariants as token
+use Rattle.lk_expr_tree.specs.declared.raw.Joint.{Joint}
+use Rattle.lk_expr_tree.specs.declared.raw.Joint.TheVariants as joint
 use Rattle.lk_expr_text.specs.declared.parser.Precedence.{Precedence}
 use Rattle.lk_expr_text.specs.declared.parser.Precedence.TheVariants as precedence
 use Rattle.lk_expr_text.specs.declared.parser.Item.{Item}
 use Rattle.lk_expr_text.specs.declared.parser.Item.TheVariants as item
 use Rattle.lk_expr_text.specs.declared.parser.Nest.{Nest}
 use Rattle.lk_expr_text.specs.declared.parser.Nest.TheVariants as nest
-use Rattle.lk_expr_text.specs.Grammar.{Tree, Number, Text, Name, Column, Field, FieldOf, Truth, Null, Group, Call, Case, CaseElse, Negate, Chain, Compare, IsNull, In, Between, Like, Not, Args, one, more, Branches, when, then_when}
-
--- a tree and the tokens behind it, where there is one
-abbrev pub Parsed : Type 0
-Parsed = Option (Tree × List Token)
-
-abbrev pub ParsedArgs : Type 0
-ParsedArgs = Option (Args × List Token)
-
-abbrev pub ParsedBranches : Type 0
-ParsedBranches = Option (Branches × List Token)
+use Rattle.lk_expr_tree.specs.Grammar.{Tree, Name, Case, Args, Branches}
+use Rattle.lk_expr_tree.specs.Growing.{Parsed, ParsedArgs, ParsedBranches, Branch, joined, first_arg, next_arg, valued, first_branch, next_branch, grouped, called, ended_else, leaf, with_sign, denied, compared, null_test, listed, upto, liked}
 
 abbrev pub Parser : Type 0
 Parser = List Token → Parsed
@@ -49,10 +39,6 @@ abbrev pub behind_first : List Token → List Token
 behind_first [] = []
 behind_first (t ∷ ts) = ts
 
-abbrev pub joined : Joint → Tree → Parsed → Parsed
-joined j a None = None
-joined j a (Some (b, rest)) = Some (Chain j a b, rest)
-
 -- the chain goes on where something joins
 abbrev pub go_on : (Parsed → Parsed) → Parser → Tree → List Token → Option Joint → Parsed
 go_on further operand a rest None = Some (a, rest)
@@ -68,14 +54,6 @@ abbrev pub chain_in : Precedence → Parser → Parser
 chain_in p operand ts = links p operand ts (operand ts)
 
 -- ---- arguments
-
-abbrev pub first_arg : Parsed → ParsedArgs
-first_arg None = None
-first_arg (Some (a, rest)) = Some (one a, rest)
-
-abbrev pub next_arg : Args → Parsed → ParsedArgs
-next_arg args None = None
-next_arg args (Some (a, rest)) = Some (more args a, rest)
 
 -- what is behind a comma, if one comes first
 abbrev pub after_comma : List Token → Option (List Token)
@@ -96,13 +74,6 @@ args_in operand ts = more_args operand ts (first_arg (operand ts))
 
 -- ---- branches
 
-abbrev pub Branch : Type 0
-Branch = Tree × (Tree × List Token)
-
-abbrev pub valued : Tree → Parsed → Option Branch
-valued c None = None
-valued c (Some (a, rest)) = Some (c, (a, rest))
-
 abbrev pub then_value : Parser → Parsed → Option Branch
 then_value operand (Some (c, token.Word keyword.Then ∷ rest)) = valued c (operand rest)
 then_value operand found = None
@@ -110,14 +81,6 @@ then_value operand found = None
 -- a condition and its value, behind WHEN
 abbrev pub branch_in : Parser → List Token → Option Branch
 branch_in operand ts = then_value operand (operand ts)
-
-abbrev pub first_branch : Option Branch → ParsedBranches
-first_branch None = None
-first_branch (Some (c, (a, rest))) = Some (when c a, rest)
-
-abbrev pub next_branch : Branches → Option Branch → ParsedBranches
-next_branch branches None = None
-next_branch branches (Some (c, (a, rest))) = Some (then_when branches c a, rest)
 
 abbrev pub after_when : List Token → Option (List Token)
 after_when (token.Word keyword.When ∷ rest) = Some rest
@@ -138,39 +101,15 @@ branches_in operand ts = None
 
 -- ---- what nothing joins
 
-abbrev pub grouped : Parsed → Parsed
-grouped (Some (a, token.Sign sign.Close ∷ rest)) = Some (Group a, rest)
-grouped found = None
-
-abbrev pub called : List ℕ → ℕ → ParsedArgs → Parsed
-called name place (Some (args, token.Sign sign.Close ∷ rest)) = Some (Call name place args, rest)
-called name place found = None
-
 -- a column's name, or a function's before a bracket
 abbrev pub named : Parser → List ℕ → ℕ → List Token → Parsed
 named operand name place (token.Sign sign.Open ∷ rest) = called name place (args_in operand rest)
 named operand name place rest = Some (Name name place, rest)
 
-abbrev pub ended_else : Branches → Parsed → Parsed
-ended_else branches (Some (a, token.Word keyword.End ∷ rest)) = Some (CaseElse branches a, rest)
-ended_else branches found = None
-
 abbrev pub case_end : Parser → ParsedBranches → Parsed
 case_end operand (Some (branches, token.Word keyword.End ∷ rest)) = Some (Case branches, rest)
 case_end operand (Some (branches, token.Word keyword.Else ∷ rest)) = ended_else branches (operand rest)
 case_end operand found = None
-
--- one token that is an expression alone
-abbrev pub leaf : Token → List Token → Parsed
-leaf (token.Number number) rest = Some (Number number, rest)
-leaf (token.Text text) rest = Some (Text text, rest)
-leaf (token.Column name) rest = Some (Column name, rest)
-leaf (token.Field name) rest = Some (Field name, rest)
-leaf (token.FieldOf view name) rest = Some (FieldOf view name, rest)
-leaf (token.Word keyword.True) rest = Some (Truth true, rest)
-leaf (token.Word keyword.False) rest = Some (Truth false, rest)
-leaf (token.Word keyword.Null) rest = Some (Null, rest)
-leaf t rest = None
 
 abbrev pub atom_in : Parser → Parser
 atom_in whole [] = None
@@ -180,14 +119,6 @@ atom_in whole (token.Sign sign.Open ∷ rest) = grouped (whole rest)
 atom_in whole (t ∷ rest) = leaf t rest
 
 -- ---- signs and tests
-
-abbrev pub with_sign : Parsed → Parsed
-with_sign None = None
-with_sign (Some (a, rest)) = Some (Negate a, rest)
-
-abbrev pub denied : Parsed → Parsed
-denied None = None
-denied (Some (a, rest)) = Some (Not a, rest)
 
 -- what stands one level deeper
 abbrev pub Below : Type 0
@@ -200,23 +131,6 @@ unary_in below ts = atom_in (below nest.Whole) ts
 abbrev pub sum_in : Below → Parser
 sum_in below = chain_in precedence.Sum (chain_in precedence.Term (unary_in below))
 
-abbrev pub compared : Comparison → Tree → Parsed → Parsed
-compared c a None = None
-compared c a (Some (b, rest)) = Some (Compare c a b, rest)
-
-abbrev pub null_test : Tree → List Token → Parsed
-null_test a (token.Word keyword.Null ∷ rest) = Some (IsNull false a, rest)
-null_test a (token.Word keyword.Not ∷ token.Word keyword.Null ∷ rest) = Some (IsNull true a, rest)
-null_test a ts = None
-
-abbrev pub listed : Bool → Tree → ParsedArgs → Parsed
-listed n a (Some (args, token.Sign sign.Close ∷ rest)) = Some (In n a args, rest)
-listed n a found = None
-
-abbrev pub upto : Bool → Tree → Tree → Parsed → Parsed
-upto n a low None = None
-upto n a low (Some (high, rest)) = Some (Between n a low high, rest)
-
 abbrev pub bounded : Parser → Bool → Tree → Parsed → Parsed
 bounded operand n a (Some (low, token.Word keyword.And ∷ rest)) = upto n a low (operand rest)
 bounded operand n a found = None
@@ -224,10 +138,6 @@ bounded operand n a found = None
 abbrev pub list_in : Parser → Bool → Tree → List Token → Parsed
 list_in operand n a (token.Sign sign.Open ∷ rest) = listed n a (args_in operand rest)
 list_in operand n a ts = None
-
-abbrev pub liked : Bool → Tree → List Token → Parsed
-liked n a (token.Text text ∷ rest) = Some (Like n a text, rest)
-liked n a ts = None
 
 -- IN, BETWEEN or LIKE behind an expression
 abbrev pub choice_in : Parser → Bool → Tree → List Token → Parsed
@@ -286,8 +196,8 @@ nested_in below nest.Sign = unary_in below
 
 -- what stands a level deeper, where so many levels are left
 unfoldable pub below : ℕ → Below
-below zero kind ts = None
-below (suc left) kind ts = nested_in (below left) kind ts
+below zero n ts = None
+below (suc left) n ts = nested_in (below left) n ts
 
 -- the tree of all the tokens
 abbrev pub all_of : Parsed → Option Tree

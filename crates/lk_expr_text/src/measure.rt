@@ -1,11 +1,10 @@
 ghost use Rattle.std.specs.Prelude.{◌≡◌, Some, IfOk, IfSome, option_map};
-ghost use Rattle.lk_expr_text.specs.RawCode.{tree_of, args_of};
-ghost use Rattle.lk_expr_text.specs.Grammar.{Tree};
-ghost use Rattle.lk_expr_text.specs.Calls.{IsMeasureText, are_measures, is_arithmetic, is_measure, is_of_measures};
+ghost use Rattle.lk_expr_tree.specs.RawCode.{tree_of};
+ghost use Rattle.lk_expr_tree.specs.Grammar.{Tree};
+ghost use Rattle.lk_expr_tree.specs.Calls.{IsMeasureText, is_measure};
 
-use crate::calls::{Function, function_of};
-use crate::raw::{Joint, RawArgs, RawExpr};
 use crate::reading::parse_expr;
+use lk_expr_tree::{RawExpr, is_measure};
 use lk_val::NoMemory;
 use std::alloc::Global;
 
@@ -20,48 +19,5 @@ pub fn parse_measure(alloc: Global, text: &[u8]) -> Result<Option<RawExpr>, NoMe
     match parse_expr(alloc, text)? {
         Some(e) if is_measure(&e) => Ok(Some(e)),
         _ => Ok(None),
-    }
-}
-
-#[cycle(measure)]
-fn is_measure(e: &RawExpr) -> bool
-    ensures { result ≡ is_measure (tree_of e.now) }
-{
-    match e {
-        RawExpr::Number(_) | RawExpr::Field(_) | RawExpr::FieldOf(_, _) => true,
-        RawExpr::Group(a) | RawExpr::Negate(a) => is_measure(a),
-        RawExpr::Call(name, _, args) => {
-            is_of_measures(function_of(name.as_slice())) && are_measures(args)
-        }
-        RawExpr::Chain(joint, a, b) => is_arithmetic(*joint) && (is_measure(a) && is_measure(b)),
-        _ => false,
-    }
-}
-
-#[cycle(measure)]
-fn are_measures(args: &RawArgs) -> bool
-    ensures { result ≡ are_measures (args_of args.now) }
-{
-    match args {
-        RawArgs::One(a) => is_measure(a),
-        RawArgs::More(args, a) => are_measures(args) && is_measure(a),
-    }
-}
-
-pub(crate) fn is_of_measures(function: Option<Function>) -> bool
-    ensures { result ≡ is_of_measures function }
-{
-    match function {
-        Some(Function::NullIf | Function::Coalesce) => true,
-        Some(Function::Lower | Function::Upper) | None => false,
-    }
-}
-
-fn is_arithmetic(joint: Joint) -> bool
-    ensures { result ≡ is_arithmetic joint }
-{
-    match joint {
-        Joint::Plus | Joint::Minus | Joint::Times | Joint::Over => true,
-        Joint::Or | Joint::And | Joint::Concat => false,
     }
 }

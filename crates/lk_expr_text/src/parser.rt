@@ -1,16 +1,15 @@
 ghost use Rattle.std.specs.Prelude.{◌≡◌, IfOk, option_map};
-ghost use Rattle.lk_expr_text.specs.RawCode.{tree_of};
-ghost use Rattle.lk_expr_text.specs.ParsedCode.{parsed, parsed_args, parsed_branch, parsed_branches};
+ghost use Rattle.lk_expr_tree.specs.RawCode.{tree_of};
+ghost use Rattle.lk_expr_tree.specs.ParsedCode.{parsed, parsed_args, parsed_branch, parsed_branches};
 ghost use Rattle.lk_expr_text.specs.Parsing.{after_comma, after_not, after_when, args_in, atom_in, behind_first, below, bounded, branch_in, branches_in, case_end, chain_in, choice_in, item_in, joint_of, named, next_joint, not_in, operand_in, sum_in, test_of, tested, unary_in};
 ghost use Rattle.lk_expr_text.specs.declared.parser.Nest.TheVariants as nest;
 
-use crate::grown::{
-    Parsed, ParsedArgs, ParsedBranch, ParsedBranches, called, compared, denied, ended, ended_else,
-    first_arg, first_branch, grouped, joined, leaf, liked, listed, next_arg, next_branch,
-    null_test, upto, valued, with_sign,
+use lk_expr_token::{Keyword, Sign, Token};
+use lk_expr_tree::{
+    Joint, Parsed, ParsedArgs, ParsedBranch, ParsedBranches, RawExpr, called, compared, denied,
+    ended, ended_else, first_arg, first_branch, grouped, joined, leaf, liked, listed, next_arg,
+    next_branch, null_test, upto, valued, with_sign,
 };
-use crate::raw::{Joint, RawExpr};
-use crate::token::{Keyword, Sign, Token};
 use lk_val::{Bytes, NoMemory};
 use std::alloc::Global;
 

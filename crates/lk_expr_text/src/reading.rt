@@ -1,12 +1,11 @@
 ghost use Rattle.std.specs.Prelude.{◌≡◌, Some, IfOk, IfSome, option_map};
-ghost use Rattle.lk_expr_text.specs.Grammar.{IsExprText, Tree};
-ghost use Rattle.lk_expr_text.specs.RawCode.{tree_of};
+ghost use Rattle.lk_expr_tree.specs.Grammar.{IsExprText, Tree};
+ghost use Rattle.lk_expr_tree.specs.RawCode.{tree_of};
 ghost use Rattle.lk_expr_text.specs.Parsing.{tree_in};
 
-use crate::lexer::read_tokens;
 use crate::parser::{Precedence, parse_chain};
-use crate::raw::RawExpr;
-use crate::token::Token;
+use lk_expr_token::{Token, read_tokens};
+use lk_expr_tree::RawExpr;
 use lk_val::NoMemory;
 use std::alloc::Global;
 

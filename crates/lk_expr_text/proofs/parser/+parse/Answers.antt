@@ -1,5 +1,5 @@
 use Rattle.std.proofs.Common.{◌<◌, length, sym, arith}
-use Rattle.lk_expr_text.specs.RawCode.{tree_of}
+use Rattle.lk_expr_tree.specs.RawCode.{tree_of}
 use Rattle.lk_expr_text.specs.Parsing.{below, operand_in}
 use Rattle.lk_expr_text.proofs.ParseSteps.{link_step}
 use Rattle.lk_expr_text.proofs.parser.+parse.Goals as goal

@@ -4,7 +4,7 @@ use Rattle.lk_expr_text.specs.declared.parser.Precedence.TheVariants as preceden
 use Rattle.lk_expr_text.specs.declared.parser.Item.{Item}
 use Rattle.lk_expr_text.specs.declared.parser.Item.TheVariants as item
 use Rattle.lk_expr_text.specs.declared.parser.Nest.TheVariants as nest
-use Rattle.lk_expr_text.specs.ParsedCode.{parsed, parsed_args, parsed_branches}
+use Rattle.lk_expr_tree.specs.ParsedCode.{parsed, parsed_args, parsed_branches}
 use Rattle.lk_expr_text.specs.Parsing.{below, operand_in, item_in, links, more_args, more_branches, chain_in, args_in, branches_in}
 use Rattle.lk_expr_text.proofs.parser.+parse.Given as goal
 

@@ -1,6 +1,6 @@
 use Rattle.std.proofs.Common.{◌≡◌, List, IfOk, option_map, subst}
-use Rattle.lk_expr_text.specs.declared.token.Token.{Token}
-use Rattle.lk_expr_text.specs.RawCode.{tree_of}
+use Rattle.lk_expr_token.specs.declared.token.Token.{Token}
+use Rattle.lk_expr_tree.specs.RawCode.{tree_of}
 use Rattle.lk_expr_text.specs.Parsing.{tree_in}
 use Rattle.lk_expr_text.proofs.ReadLaws.{result_found, result_every}
 use Rattle.lk_expr_text.proofs.reading.parse_expr.Goals as goal

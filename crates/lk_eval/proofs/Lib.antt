@@ -1,0 +1,5 @@
+pub mod LetterLaws
+pub mod KindLaws
+pub mod FrameSteps
+pub mod DateLaws
+mod PatternLaws

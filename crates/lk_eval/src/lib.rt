@@ -1,0 +1,20 @@
+//! Resolved expressions: the kinds that they may have, and their values on joined rows.
+#![tactic(auto)]
+
+mod arithmetic;
+mod comparison;
+mod dated;
+mod evaluation;
+mod framed;
+mod kinds;
+mod laws;
+mod like;
+mod operand;
+mod texts;
+mod truth;
+
+pub use dated::{are_literals_dated, is_row_dated};
+pub use evaluation::eval;
+pub use kinds::{Clash, kind_of};
+pub use laws::values_have_their_kinds;
+pub use like::{each_pattern_has_a_text, read_pattern};

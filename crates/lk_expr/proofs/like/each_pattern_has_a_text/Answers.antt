@@ -1,5 +1,0 @@
-use Rattle.lk_expr.proofs.PatternLaws.{text_read}
-use Rattle.lk_expr.proofs.like.each_pattern_has_a_text.Goals as goal
-
-pub returns : goal.returns
-returns c = text_read

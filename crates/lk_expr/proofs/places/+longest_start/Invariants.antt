@@ -1,5 +1,0 @@
-use Rattle.std.proofs.Common.{length}
-use Rattle.lk_expr.proofs.places.+longest_start.Given as goal
-
-abbrev pub decreases-longest_start : goal.decreases-longest_start
-decreases-longest_start l = length l.among.now

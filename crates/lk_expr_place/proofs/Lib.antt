@@ -1,0 +1,11 @@
+pub mod TerminalBytes
+pub mod TerminalTokens
+pub mod TerminalTrees
+pub mod TerminalMeasures
+pub mod TerminalExprsMade
+pub mod TerminalExprsPrinted
+pub mod TerminalExprs
+pub mod TerminalJudged
+pub mod ReadFronts
+pub mod SyntaxPlaceLaws
+pub mod GrammarLaws

@@ -1,0 +1,4 @@
+pub mod GrammarForms
+pub mod TerminalGrammar
+pub mod SyntaxPlaces
+pub mod ExprTexts

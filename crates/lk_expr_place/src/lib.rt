@@ -1,0 +1,11 @@
+//! Expressions and measures read from texts, with the place of a fault.
+#![tactic(auto)]
+
+mod expr_forms;
+mod form_parts;
+mod judging;
+mod measure_forms;
+mod places;
+mod reading;
+
+pub use reading::{ExprFault, read_expr, read_measure};

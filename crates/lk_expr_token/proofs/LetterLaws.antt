@@ -1,0 +1,12 @@
+-- The letters of ASCII in lower case, as std has them.
+use Rattle.std.proofs.Common.{◌≡◌, ℕ, List, arith}
+use Rattle.std.specs.Prelude.{map}
+use Rattle.std.proofs.lemmas.Bool.Decides.{nat_tests}
+use Rattle.std.specs.Char.{to_ascii_lowercase}
+use Rattle.lk_types.specs.Expressions.{ascii_lower}
+
+lower-letter : (c : ℕ) → to_ascii_lowercase c ≡ ascii_lower c
+lower-letter c = grind (arith, nat_tests)
+
+pub lower_letters : (text : List ℕ) → map to_ascii_lowercase text ≡ map ascii_lower text
+lower_letters text = λ i. map (λ c. lower-letter c i) text

@@ -1,0 +1,13 @@
+pub mod LetterLaws
+pub mod LexSteps
+pub mod LexLaws
+pub mod TextLaws
+pub mod TerminalLaws
+pub mod TerminalsKnown
+pub mod FormFronts
+pub mod TerminalFronts
+pub mod NumberFronts
+pub mod TextFronts
+pub mod FrontLaws
+pub mod ScanSteps
+pub mod FrontTokens

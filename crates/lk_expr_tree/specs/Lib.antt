@@ -1,0 +1,5 @@
+pub mod Grammar
+pub mod RawCode
+pub mod Calls
+pub mod Growing
+pub mod ParsedCode
