@@ -177,40 +177,46 @@ is_typed_field leaves f =
     has_tiers f.shape
     && list_any (λ k. is_made_of f k && is_typed leaves k f.expr) (kind.Text ∷ kind.Number ∷ kind.Truth ∷ kind.Day ∷ kind.Moment ∷ [])
 
--- a measure has what its type computes with, and nothing else: its value of its kind, a key, or a calculation
+-- there is no expression
+abbrev pub is_no_formula : Option Formula → Bool
+is_no_formula None = true
+is_no_formula (Some e) = false
+
+-- there is a calculation
+abbrev pub has_calculation : Option Calculation → Bool
+has_calculation None = false
+has_calculation (Some e) = true
+
+-- the measure calculates over other measures
+abbrev pub is_number_type : Op → Bool
+is_number_type op.Number = true
+is_number_type other = false
+
+-- a type of measure has the value and the key that it computes with: a count and a `number` have no value
+abbrev pub has_operands : Leaves → Op → Kind → Option Formula → Option Formula → Bool
+has_operands leaves op.Count k value key = is_no_formula value
+has_operands leaves op.Number k value key = is_no_formula value
+has_operands leaves op.CountDistinct k value key = is_some_known leaves value
+has_operands leaves op.Min k value key = is_some_typed leaves k value
+has_operands leaves op.Max k value key = is_some_typed leaves k value
+has_operands leaves op.Sum k value key = is_some_typed leaves kind.Number value
+has_operands leaves op.Average k value key = is_some_typed leaves kind.Number value
+has_operands leaves op.SumDistinct k value key = is_some_typed leaves kind.Number value && is_some_known leaves key
+has_operands leaves op.AverageDistinct k value key = is_some_typed leaves kind.Number value && is_some_known leaves key
+
+-- the kind of a measure's own value: what a `min` or `max` runs over, and else a number
+abbrev pub has_own_kind : Op → Kind → Bool
+has_own_kind op.Min k = true
+has_own_kind op.Max k = true
+has_own_kind other k = is_same_kind k kind.Number
+
+-- a calculation stands at each `number`, and at no other measure
+abbrev pub is_calculated_rightly : Op → Option Calculation → Bool
+is_calculated_rightly o e = if is_number_type o then has_calculation e else not (has_calculation e)
+
+-- a measure has what its type computes with, and nothing else
 abbrev pub is_typed_measure : Leaves → Measure → Bool
-is_typed_measure leaves m = by_op m.op && (not (is_numeric m.op) || is_same_kind m.kind kind.Number) && (not (is_number m.op) || has_calculation) && (is_number m.op || not has_calculation)
-  where
-    is_number : Op → Bool
-    is_number op.Number = true
-    is_number other = false
-
-    is_numeric : Op → Bool
-    is_numeric op.Min = false
-    is_numeric op.Max = false
-    is_numeric other = true
-
-    has_calculation : Bool
-    has_calculation = is_there m.number
-      where
-        is_there : Option Calculation → Bool
-        is_there None = false
-        is_there (Some e) = true
-
-    no_value : Option Formula → Bool
-    no_value None = true
-    no_value (Some e) = false
-
-    by_op : Op → Bool
-    by_op op.Count = no_value m.value
-    by_op op.Number = no_value m.value
-    by_op op.CountDistinct = is_some_known leaves m.value
-    by_op op.Min = is_some_typed leaves m.kind m.value
-    by_op op.Max = is_some_typed leaves m.kind m.value
-    by_op op.Sum = is_some_typed leaves kind.Number m.value
-    by_op op.Average = is_some_typed leaves kind.Number m.value
-    by_op op.SumDistinct = is_some_typed leaves kind.Number m.value && is_some_known leaves m.key
-    by_op op.AverageDistinct = is_some_typed leaves kind.Number m.value && is_some_known leaves m.key
+is_typed_measure leaves m = has_operands leaves m.op m.kind m.value m.key && has_own_kind m.op m.kind && is_calculated_rightly m.op m.number
 
 -- a cross join has no condition, and every other join one that is yes or no
 abbrev pub is_typed_join : Leaves → Join → Bool

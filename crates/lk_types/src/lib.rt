@@ -38,6 +38,3 @@ pub use pattern::matches;
 pub use printing::{print_cell, print_json};
 pub use rows::{Joined, Sources, Tables};
 pub use schema::{ColumnDef, Frame, Kind, Schema, TableDef};
-
-#[cfg(test)]
-mod tests;

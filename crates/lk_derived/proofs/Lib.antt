@@ -1,0 +1,2 @@
+pub mod DatedAnswers
+pub mod DatedModels
