@@ -59,11 +59,11 @@ module _ {A : Type 0} (cmp : A → A → Ordering) (t : A → Bool) where
   every-set_of [] p = refl
   every-set_of (x ∷ xs) p = every-with_item x (set_of cmp xs) (first (t x) (list_all t xs) p) (every-set_of xs (second (t x) (list_all t xs) p))
 
-every-enumerated : {A : Type 0} (t : A → Bool) (n : ℕ) (xs : List A) → Every t xs → Every (λ (e : ℕ × A). t e.1) (enumerate_from n xs)
+pub every-enumerated : {A : Type 0} (t : A → Bool) (n : ℕ) (xs : List A) → Every t xs → Every (λ (e : ℕ × A). t e.1) (enumerate_from n xs)
 every-enumerated t n [] p = refl
 every-enumerated t n (x ∷ xs) p = both (t x) (list_all (λ e. t e.1) (enumerate_from (n + 1) xs)) (first (t x) (list_all t xs) p) (every-enumerated t (n + 1) xs (second (t x) (list_all t xs) p))
 
-all_of : {A : Type 0} (xs : List A) → Every (λ x. true) xs
+pub all_of : {A : Type 0} (xs : List A) → Every (λ x. true) xs
 all_of [] = refl
 all_of (x ∷ xs) = all_of xs
 

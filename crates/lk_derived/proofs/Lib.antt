@@ -1,2 +1,5 @@
 pub mod DatedAnswers
 pub mod DatedModels
+pub mod FittingJoins
+pub mod FittingAnswers
+pub mod FittingModels

@@ -1,1 +1,2 @@
 pub mod DatedExplores
+pub mod FittingRows

@@ -1,6 +1,10 @@
 // Laws of derived tables. Each is a function that computes nothing: its clauses are the law.
 
-ghost use Rattle.std.specs.Prelude.{◌≡◌, true};
+ghost use Rattle.std.specs.Prelude.{◌≡◌, ℕ, true, [], slice_index_or};
+ghost use Rattle.lk_types.specs.Tables.{are_valid_tables};
+ghost use Rattle.lk_semantics.specs.Rollups.{derived_at};
+ghost use Rattle.lk_semantics.specs.Reading.{derived_kinds};
+ghost use Rattle.lk_derived.specs.FittingRows.{fits_rows};
 ghost use Rattle.std.specs.List.{list_all};
 ghost use Rattle.lk_semantics.specs.DatedRows.{are_rows_dated, are_sources_dated};
 ghost use Rattle.lk_semantics.specs.Derived.{sources_of};
@@ -19,4 +23,11 @@ pub fn resolved_explores_are_dated()
 pub fn derived_rows_are_dated()
     ensures { (m : Model) (t : Tables) → list_all is_explore_dated m.explores ≡ true → list_all are_rows_dated t.tables ≡ true
         → are_sources_dated (sources_of m t) ≡ true }
+{}
+
+/// Over valid tables, the rows of each derived table of a resolved model are null or of the kinds of what its columns
+/// take. A law: it computes nothing.
+pub fn derived_rows_have_their_kinds()
+    ensures { (m : Model) (t : Tables) → IsResolved m → are_valid_tables m.schema.tables t.tables ≡ true → (d : ℕ)
+        → fits_rows (derived_kinds m (derived_at m d)) (slice_index_or (sources_of m t).derived d []) ≡ true }
 {}

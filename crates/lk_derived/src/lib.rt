@@ -1,6 +1,9 @@
-//! Laws of the rows of derived tables: their days and moments are of the years that every evaluation takes.
+//! Laws of the rows of derived tables: their days and moments are of the years that every evaluation
+//! takes, and their cells of the kinds of what their columns take.
 #![tactic(auto)]
 
 mod laws;
 
-pub use laws::{derived_rows_are_dated, resolved_explores_are_dated};
+pub use laws::{
+    derived_rows_are_dated, derived_rows_have_their_kinds, resolved_explores_are_dated,
+};

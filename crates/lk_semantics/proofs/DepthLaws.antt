@@ -149,7 +149,7 @@ module _ (m : Model) (stored : List Rows) where
   round n = record { stored = stored; derived = derived_within m stored n }
 
   -- the rows of a table past the end
-  past_end : (n e : ℕ) → length m.derived ≤ e → slice_index_or (derived_within m stored n) e [] ≡ []
+  pub past_end : (n e : ℕ) → length m.derived ≤ e → slice_index_or (derived_within m stored n) e [] ≡ []
   past_end zero e h = refl
   past_end (suc n) e h = past (map (derived_rows m (round n)) m.derived) e (subst (λ k. k ≤ e) (sym (length-map m.derived (derived_rows m (round n)))) h)
     where
@@ -158,10 +158,10 @@ module _ (m : Model) (stored : List Rows) where
       past (x ∷ xs) zero h = absurd (omega arith)
       past (x ∷ xs) (suc e) h = past xs e (omega arith)
 
-  row_at : (n d : ℕ) → d < length m.derived → slice_index_or (derived_within m stored (suc n)) d [] ≡ derived_rows m (round n) (derived_at m d)
+  pub row_at : (n d : ℕ) → d < length m.derived → slice_index_or (derived_within m stored (suc n)) d [] ≡ derived_rows m (round n) (derived_at m d)
   row_at n d h = get_or-map (derived_rows m (round n)) m.derived d no_derived [] h
 
-lt_or_ge : (a b : ℕ) → (a < b) ⊎ (b ≤ a)
+pub lt_or_ge : (a b : ℕ) → (a < b) ⊎ (b ≤ a)
 lt_or_ge a zero = inr (omega arith)
 lt_or_ge zero (suc b) = inl (omega arith)
 lt_or_ge (suc a) (suc b) = ⊎_elim (λ less. inl (omega arith)) (λ more. inr (omega arith)) (lt_or_ge a b)
