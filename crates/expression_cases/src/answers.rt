@@ -1,10 +1,10 @@
 use crate::names::{leaves, row};
-use crate::resolving::{Unresolved, resolve};
+use crate::refused::Refused;
+use crate::resolving::resolve;
 use crate::trees::show;
 use lk_expr::{
     Clash, ExprFault, are_literals_dated, eval, is_row_dated, kind_of, read_expr, read_measure,
 };
-use lk_expr_tree::RawExpr;
 use lk_types::{Kind, Shape, print_cell};
 use lk_val::{Cell, NoMemory, Value};
 use percent_encoding::percent_decode;
@@ -12,28 +12,39 @@ use std::alloc::Global;
 
 /// What comes of a case. `read` and `measure` read a text as an expression or a measure, in which `%` and two
 /// hexadecimal digits are a byte; `nested` reads one that nests so deep; `tree` shows the operators of an expression,
-/// `kind` its kind and `value` its value.
+/// `kind` its kind and `value` its value. Empty lines and headings are given back.
 pub fn answer(alloc: Global, line: &str) -> Result<String, NoMemory> {
     if line.is_empty() || line.starts_with('#') {
-        return Ok(String::from_str(alloc, line)?);
+        return words(alloc, line);
     }
     let Some((subject, text)) = line.split_once(':') else {
-        return no_case(alloc);
+        return words(alloc, "no such case");
     };
-    let text = text.trim_start();
+    match answer_of(alloc, subject, text.trim_start()) {
+        Ok(text) => Ok(text),
+        Err(Refused::Case) => words(alloc, "no such case"),
+        Err(Refused::Name) => words(alloc, "no such name"),
+        Err(Refused::Years) => words(alloc, "out of the years"),
+        Err(Refused::Text(ExprFault::E1(place))) => Ok(format!(in alloc; "E1 at byte {place}")?),
+        Err(Refused::Text(ExprFault::E2(place))) => Ok(format!(in alloc; "E2 at byte {place}")?),
+        Err(Refused::Text(ExprFault::NoMemory)) => Err(NoMemory),
+    }
+}
+
+fn words(alloc: Global, words: &str) -> Result<String, NoMemory> {
+    Ok(String::from_str(alloc, words)?)
+}
+
+fn answer_of(alloc: Global, subject: &str, text: &str) -> Result<String, Refused> {
     match subject {
-        "read" => read_answer(alloc, read_expr(alloc, decoded(alloc, text)?.as_slice())),
-        "measure" => read_answer(alloc, read_measure(alloc, decoded(alloc, text)?.as_slice())),
+        "read" => read_answer(alloc, decoded(alloc, text)?.as_slice()),
+        "measure" => measure_answer(alloc, decoded(alloc, text)?.as_slice()),
         "nested" => nested_answer(alloc, text),
         "tree" => tree_answer(alloc, text),
         "kind" => kind_answer(alloc, text),
         "value" => value_answer(alloc, text),
-        _ => no_case(alloc),
+        _ => Err(Refused::Case),
     }
-}
-
-fn no_case(alloc: Global) -> Result<String, NoMemory> {
-    Ok(String::from_str(alloc, "no such case")?)
 }
 
 // The bytes that a text stands for.
@@ -43,32 +54,28 @@ fn decoded(alloc: Global, text: &str) -> Result<Vec<u8>, NoMemory> {
     Ok(bytes)
 }
 
-fn read_answer(alloc: Global, read: Result<RawExpr, ExprFault>) -> Result<String, NoMemory> {
-    match read {
-        Ok(_) => Ok(String::from_str(alloc, "read")?),
-        Err(fault) => fault_answer(alloc, fault),
-    }
+fn read_answer(alloc: Global, text: &[u8]) -> Result<String, Refused> {
+    drop(read_expr(alloc, text)?);
+    Ok(words(alloc, "read")?)
 }
 
-fn fault_answer(alloc: Global, fault: ExprFault) -> Result<String, NoMemory> {
-    match fault {
-        ExprFault::E1(place) => Ok(format!(in alloc; "E1 at byte {place}")?),
-        ExprFault::E2(place) => Ok(format!(in alloc; "E2 at byte {place}")?),
-        ExprFault::NoMemory => Err(NoMemory),
-    }
+fn measure_answer(alloc: Global, text: &[u8]) -> Result<String, Refused> {
+    drop(read_measure(alloc, text)?);
+    Ok(words(alloc, "read")?)
 }
 
 // The words are how deep, what opens and what closes: as `2 ( )` for `( ( 1 ) )`.
-fn nested_answer(alloc: Global, words: &str) -> Result<String, NoMemory> {
+fn nested_answer(alloc: Global, words: &str) -> Result<String, Refused> {
     let words: Vec<&str> = words.split_whitespace().collect(alloc)?;
-    match words.as_slice() {
-        [depth, open] => nested_in(alloc, depth.parse().unwrap_or(0), open, ""),
-        [depth, open, close] => nested_in(alloc, depth.parse().unwrap_or(0), open, close),
-        _ => no_case(alloc),
-    }
+    let text = match words.as_slice() {
+        [depth, open] => nested(alloc, depth.parse().unwrap_or(0), open, "")?,
+        [depth, open, close] => nested(alloc, depth.parse().unwrap_or(0), open, close)?,
+        _ => return Err(Refused::Case),
+    };
+    read_answer(alloc, text.as_bytes())
 }
 
-fn nested_in(alloc: Global, depth: u32, open: &str, close: &str) -> Result<String, NoMemory> {
+fn nested(alloc: Global, depth: u32, open: &str, close: &str) -> Result<String, NoMemory> {
     let mut text = String::new(alloc);
     for _ in 0..depth {
         text.push_str(open)?;
@@ -79,26 +86,19 @@ fn nested_in(alloc: Global, depth: u32, open: &str, close: &str) -> Result<Strin
         text.push_str(" ")?;
         text.push_str(close)?;
     }
-    read_answer(alloc, read_expr(alloc, text.as_bytes()))
+    Ok(text)
 }
 
-fn tree_answer(alloc: Global, text: &str) -> Result<String, NoMemory> {
-    match read_expr(alloc, text.as_bytes()) {
-        Ok(e) => {
-            let mut out = String::new(alloc);
-            show(&mut out, &e)?;
-            Ok(out)
-        }
-        Err(fault) => fault_answer(alloc, fault),
-    }
+fn tree_answer(alloc: Global, text: &str) -> Result<String, Refused> {
+    let e = read_expr(alloc, text.as_bytes())?;
+    let mut out = String::new(alloc);
+    show(&mut out, &e)?;
+    Ok(out)
 }
 
-fn kind_answer(alloc: Global, text: &str) -> Result<String, NoMemory> {
-    match resolve(alloc, text.as_bytes()) {
-        Ok(e) => Ok(String::from_str(alloc, kind_name(kind_of(&e, &leaves(alloc)?)))?),
-        Err(Unresolved::Name) => Ok(String::from_str(alloc, "no such name")?),
-        Err(Unresolved::Fault(fault)) => fault_answer(alloc, fault),
-    }
+fn kind_answer(alloc: Global, text: &str) -> Result<String, Refused> {
+    let e = resolve(alloc, text.as_bytes())?;
+    Ok(words(alloc, kind_name(kind_of(&e, &leaves(alloc)?)))?)
 }
 
 fn kind_name(kind: Result<Option<Kind>, Clash>) -> &'static str {
@@ -113,23 +113,18 @@ fn kind_name(kind: Result<Option<Kind>, Clash>) -> &'static str {
     }
 }
 
-fn value_answer(alloc: Global, text: &str) -> Result<String, NoMemory> {
-    match resolve(alloc, text.as_bytes()) {
-        Ok(e) => {
-            let row = row(alloc)?;
-            if !is_row_dated(&row) || !are_literals_dated(&e) {
-                return Ok(String::from_str(alloc, "out of the years")?);
-            }
-            value_text(alloc, eval(alloc, &e, &row)?)
-        }
-        Err(Unresolved::Name) => Ok(String::from_str(alloc, "no such name")?),
-        Err(Unresolved::Fault(fault)) => fault_answer(alloc, fault),
+fn value_answer(alloc: Global, text: &str) -> Result<String, Refused> {
+    let e = resolve(alloc, text.as_bytes())?;
+    let row = row(alloc)?;
+    if !is_row_dated(&row) || !are_literals_dated(&e) {
+        return Err(Refused::Years);
     }
+    Ok(value_text(alloc, eval(alloc, &e, &row)?)?)
 }
 
 fn value_text(alloc: Global, value: Value) -> Result<String, NoMemory> {
     match value {
-        Value::Null => Ok(String::from_str(alloc, "null")?),
+        Value::Null => words(alloc, "null"),
         value => Ok(print_cell(alloc, &Cell::Value(value), &Shape::Plain)?.into_string()),
     }
 }

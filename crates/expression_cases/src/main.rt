@@ -4,6 +4,7 @@
 
 mod answers;
 mod names;
+mod refused;
 mod resolving;
 mod trees;
 

@@ -1,46 +1,20 @@
 use crate::names::{frame_of, named};
-use lk_expr::{ExprFault, read_expr, read_pattern};
+use crate::refused::Refused;
+use lk_expr::{read_expr, read_pattern};
 use lk_expr_token::{Function, function_of};
 use lk_expr_tree::{Joint, RawArgs, RawBranches, RawExpr};
 use lk_types::{Args, Arithmetic, Branches, Expr, Node};
 use lk_val::{Bytes, NoMemory, Num, Value, as_text};
-use std::alloc::{AllocFailed, Global};
-
-/// Why the text of a case is no expression over its names.
-#[derive(Clone, Copy, Debug, PartialEq, Eq)]
-pub enum Unresolved {
-    /// A name stands for nothing.
-    Name,
-    /// The text is no expression.
-    Fault(ExprFault),
-}
-
-impl From<NoMemory> for Unresolved {
-    fn from(_: NoMemory) -> Unresolved {
-        Unresolved::Fault(ExprFault::NoMemory)
-    }
-}
-
-impl<T: Drop> From<AllocFailed<T>> for Unresolved {
-    fn from(_: AllocFailed<T>) -> Unresolved {
-        Unresolved::Fault(ExprFault::NoMemory)
-    }
-}
-
-impl From<ExprFault> for Unresolved {
-    fn from(fault: ExprFault) -> Unresolved {
-        Unresolved::Fault(fault)
-    }
-}
+use std::alloc::Global;
 
 /// The expression of a text over the names of the cases; `${day.week}` is a timeframe of what a name stands for.
-pub fn resolve(alloc: Global, text: &[u8]) -> Result<Expr, Unresolved> {
+pub fn resolve(alloc: Global, text: &[u8]) -> Result<Expr, Refused> {
     let e = read_expr(alloc, text)?;
     Ok(Expr::new(node_of(alloc, &e)?))
 }
 
 #[cycle(resolve)]
-fn node_of(alloc: Global, e: &RawExpr) -> Result<Node, Unresolved> {
+fn node_of(alloc: Global, e: &RawExpr) -> Result<Node, Refused> {
     Ok(match e {
         RawExpr::Number(number) => Node::Literal(number_of(number)),
         RawExpr::Text(text) => Node::Literal(Value::Text(text.copy(alloc)?)),
@@ -48,7 +22,7 @@ fn node_of(alloc: Global, e: &RawExpr) -> Result<Node, Unresolved> {
         RawExpr::Null => Node::Literal(Value::Null),
         RawExpr::Name(name, _) => name_node(alloc, name)?,
         RawExpr::FieldOf(name, frame) => framed(alloc, name, frame)?,
-        RawExpr::Column(_) | RawExpr::Field(_) => return Err(Unresolved::Name),
+        RawExpr::Column(_) | RawExpr::Field(_) => return Err(Refused::Name),
         RawExpr::Group(a) => node_of(alloc, a)?,
         RawExpr::Negate(a) => Node::Negate(boxed(alloc, a)?),
         RawExpr::Not(a) => Node::Not(boxed(alloc, a)?),
@@ -81,13 +55,13 @@ fn node_of(alloc: Global, e: &RawExpr) -> Result<Node, Unresolved> {
 }
 
 #[cycle(resolve)]
-fn boxed(alloc: Global, e: &RawExpr) -> Result<Box<Node>, Unresolved> {
+fn boxed(alloc: Global, e: &RawExpr) -> Result<Box<Node>, Refused> {
     Ok(Box::new(alloc, node_of(alloc, e)?)?)
 }
 
 // The arguments before the others.
 #[cycle(resolve)]
-fn args_of(alloc: Global, all: &RawArgs, behind: Args) -> Result<Args, Unresolved> {
+fn args_of(alloc: Global, all: &RawArgs, behind: Args) -> Result<Args, Refused> {
     match all {
         RawArgs::One(a) => Ok(Args::More(boxed(alloc, a)?, Box::new(alloc, behind)?)),
         RawArgs::More(all, a) => {
@@ -99,11 +73,7 @@ fn args_of(alloc: Global, all: &RawArgs, behind: Args) -> Result<Args, Unresolve
 
 // The branches before the others.
 #[cycle(resolve)]
-fn branches_of(
-    alloc: Global,
-    cases: &RawBranches,
-    behind: Branches,
-) -> Result<Branches, Unresolved> {
+fn branches_of(alloc: Global, cases: &RawBranches, behind: Branches) -> Result<Branches, Refused> {
     match cases {
         RawBranches::When(c, a) => {
             Ok(Branches::When(boxed(alloc, c)?, boxed(alloc, a)?, Box::new(alloc, behind)?))
@@ -130,21 +100,21 @@ fn number_of(number: &Bytes) -> Value {
     }
 }
 
-fn name_node(alloc: Global, name: &Bytes) -> Result<Node, Unresolved> {
+fn name_node(alloc: Global, name: &Bytes) -> Result<Node, Refused> {
     match as_text(name.as_slice()) {
-        Some(name) => named(alloc, name)?.ok_or(Unresolved::Name),
-        None => Err(Unresolved::Name),
+        Some(name) => named(alloc, name)?.ok_or(Refused::Name),
+        None => Err(Refused::Name),
     }
 }
 
-fn framed(alloc: Global, name: &Bytes, frame: &Bytes) -> Result<Node, Unresolved> {
+fn framed(alloc: Global, name: &Bytes, frame: &Bytes) -> Result<Node, Refused> {
     let node = name_node(alloc, name)?;
     match as_text(frame.as_slice()) {
         Some(frame) => match frame_of(frame) {
             Some(frame) => Ok(Node::Framed(frame, Box::new(alloc, node)?)),
-            None => Err(Unresolved::Name),
+            None => Err(Refused::Name),
         },
-        None => Err(Unresolved::Name),
+        None => Err(Refused::Name),
     }
 }
 
@@ -169,15 +139,15 @@ fn joined(joint: Joint, a: Box<Node>, b: Box<Node>) -> Node {
 }
 
 // The call of a function, whose number of arguments the reader has tested.
-fn called(alloc: Global, function: Option<Function>, all: Args) -> Result<Node, Unresolved> {
+fn called(alloc: Global, function: Option<Function>, all: Args) -> Result<Node, Refused> {
     match (function, all) {
         (Some(Function::Coalesce), all) => Ok(Node::Coalesce(Box::new(alloc, all)?)),
         (Some(Function::Lower), Args::More(a, _)) => Ok(Node::Lower(a)),
         (Some(Function::Upper), Args::More(a, _)) => Ok(Node::Upper(a)),
         (Some(Function::NullIf), Args::More(a, rest)) => match Box::into_inner(rest) {
             Args::More(b, _) => Ok(Node::NullIf(a, b)),
-            Args::End => Err(Unresolved::Name),
+            Args::End => Err(Refused::Name),
         },
-        _ => Err(Unresolved::Name),
+        _ => Err(Refused::Name),
     }
 }
