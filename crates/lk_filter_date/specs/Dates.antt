@@ -16,22 +16,24 @@ use Rattle.lk_types.specs.declared.filter.Test.TheVariants as test
 use Rattle.lk_grammar.specs.Listed.{further_tokens, listed, with_own}
 use Rattle.lk_filter_date.specs.DateTexts.{days_of, count_of, date_literal, date_form, count_form}
 use Rattle.lk_filter_date.specs.declared.words.DateWord.{DateWord}
+use Rattle.lk_filter_date.specs.declared.words.Plurality.{Plurality}
+use Rattle.lk_filter_date.specs.declared.words.Plurality.TheVariants.{Plural, Singular}
 use Rattle.lk_filter_date.specs.declared.words.DateWord.TheVariants as word
 use Rattle.lk_filter_date.specs.declared.items.DateItem.{DateItem}
 use Rattle.lk_filter_date.specs.declared.items.DateItem.TheVariants as item
 
 -- a unit, in the plural or not
-abbrev pub unit_letters : Period → Bool → List ℕ
-unit_letters Day true = codes "days"
-unit_letters Day false = codes "day"
-unit_letters Week true = codes "weeks"
-unit_letters Week false = codes "week"
-unit_letters Month true = codes "months"
-unit_letters Month false = codes "month"
-unit_letters Quarter true = codes "quarters"
-unit_letters Quarter false = codes "quarter"
-unit_letters Year true = codes "years"
-unit_letters Year false = codes "year"
+abbrev pub unit_letters : Period → Plurality → List ℕ
+unit_letters Day Plural = codes "days"
+unit_letters Day Singular = codes "day"
+unit_letters Week Plural = codes "weeks"
+unit_letters Week Singular = codes "week"
+unit_letters Month Plural = codes "months"
+unit_letters Month Singular = codes "month"
+unit_letters Quarter Plural = codes "quarters"
+unit_letters Quarter Singular = codes "quarter"
+unit_letters Year Plural = codes "years"
+unit_letters Year Singular = codes "year"
 
 abbrev pub letters_of : DateWord → List ℕ
 letters_of word.Before = codes "before"
@@ -45,7 +47,7 @@ letters_of word.Ago = codes "ago"
 letters_of word.Null = codes "null"
 letters_of word.Not = codes "not"
 letters_of word.Comma = codes ","
-letters_of (word.Unit period plural) = unit_letters period plural
+letters_of (word.Unit period plurality) = unit_letters period plurality
 
 abbrev pub DateToken : Type 0
 DateToken = Token DateWord
@@ -59,10 +61,10 @@ item_tokens (item.After date) = Word word.After ∷ Literal date ∷ []
 item_tokens (item.FromTo from upto) = Literal from ∷ Word word.To ∷ Literal upto ∷ []
 item_tokens item.Today = Word word.Today ∷ []
 item_tokens item.Yesterday = Word word.Yesterday ∷ []
-item_tokens (item.This period) = Word word.This ∷ Word (word.Unit period false) ∷ []
-item_tokens (item.Last period) = Word word.Last ∷ Word (word.Unit period false) ∷ []
-item_tokens (item.Recent count period plural) = Literal count ∷ Word (word.Unit period plural) ∷ []
-item_tokens (item.Ago count period plural) = Literal count ∷ Word (word.Unit period plural) ∷ Word word.Ago ∷ []
+item_tokens (item.This period) = Word word.This ∷ Word (word.Unit period Singular) ∷ []
+item_tokens (item.Last period) = Word word.Last ∷ Word (word.Unit period Singular) ∷ []
+item_tokens (item.Recent count period plurality) = Literal count ∷ Word (word.Unit period plurality) ∷ []
+item_tokens (item.Ago count period plurality) = Literal count ∷ Word (word.Unit period plurality) ∷ Word word.Ago ∷ []
 item_tokens (item.Null false) = Word word.Null ∷ []
 item_tokens (item.Null true) = Word word.Not ∷ Word word.Null ∷ []
 
@@ -97,8 +99,8 @@ item_test item.Today = Some test.Today
 item_test item.Yesterday = Some test.Yesterday
 item_test (item.This period) = if is_day period then None else Some (test.This period)
 item_test (item.Last period) = if is_day period then None else Some (test.Last period)
-item_test (item.Recent count period plural) = option_map (λ n. test.Recent n period) (count_of count)
-item_test (item.Ago count period plural) = option_map (λ n. test.Ago n period) (count_of count)
+item_test (item.Recent count period plurality) = option_map (λ n. test.Recent n period) (count_of count)
+item_test (item.Ago count period plurality) = option_map (λ n. test.Ago n period) (count_of count)
 item_test (item.Null negated) = Some test.Null
 
 -- `NOT` stands before it
@@ -142,8 +144,8 @@ IsDateFilter f text = (items : List DateItem) × IsDateText items text × (date_
 -- the item that a date or a count begins, and what is behind it
 abbrev pub item_of_literal : List ℕ → List DateToken → DateItem × List DateToken
 item_of_literal date (Word word.To ∷ Literal upto ∷ tokens) = (item.FromTo date upto, tokens)
-item_of_literal count (Word (word.Unit period plural) ∷ Word word.Ago ∷ tokens) = (item.Ago count period plural, tokens)
-item_of_literal count (Word (word.Unit period plural) ∷ tokens) = (item.Recent count period plural, tokens)
+item_of_literal count (Word (word.Unit period plurality) ∷ Word word.Ago ∷ tokens) = (item.Ago count period plurality, tokens)
+item_of_literal count (Word (word.Unit period plurality) ∷ tokens) = (item.Recent count period plurality, tokens)
 item_of_literal date tokens = (item.In date, tokens)
 
 -- the item that a word begins
@@ -153,8 +155,8 @@ item_of_word word.Yesterday tokens = Some (item.Yesterday, tokens)
 item_of_word word.Null tokens = Some (item.Null false, tokens)
 item_of_word word.Before (Literal date ∷ tokens) = Some (item.Before date, tokens)
 item_of_word word.After (Literal date ∷ tokens) = Some (item.After date, tokens)
-item_of_word word.This (Word (word.Unit period false) ∷ tokens) = Some (item.This period, tokens)
-item_of_word word.Last (Word (word.Unit period false) ∷ tokens) = Some (item.Last period, tokens)
+item_of_word word.This (Word (word.Unit period Singular) ∷ tokens) = Some (item.This period, tokens)
+item_of_word word.Last (Word (word.Unit period Singular) ∷ tokens) = Some (item.Last period, tokens)
 item_of_word word.Not (Word word.Null ∷ tokens) = Some (item.Null true, tokens)
 item_of_word w tokens = None
 
@@ -204,7 +206,7 @@ written_count = free (32 ∷ []) count_form
 
 -- a unit in the plural or not
 abbrev pub unit_form : Period → Form
-unit_form period = either (any_word (unit_letters period true)) (any_word (unit_letters period false))
+unit_form period = either (any_word (unit_letters period Plural)) (any_word (unit_letters period Singular))
 
 abbrev pub units_form : Form
 units_form = either (unit_form Day) (either (unit_form Week) (either (unit_form Month) (either (unit_form Quarter) (unit_form Year))))
@@ -212,8 +214,8 @@ units_form = either (unit_form Day) (either (unit_form Week) (either (unit_form 
 -- a unit of which there is a current one
 abbrev pub period_form : Form
 period_form =
-    either (any_word (unit_letters Week false))
-    (either (any_word (unit_letters Month false)) (either (any_word (unit_letters Quarter false)) (any_word (unit_letters Year false))))
+    either (any_word (unit_letters Week Singular))
+    (either (any_word (unit_letters Month Singular)) (either (any_word (unit_letters Quarter Singular)) (any_word (unit_letters Year Singular))))
 
 -- a date, which `to` and a second one may follow
 abbrev pub dated_form : Form

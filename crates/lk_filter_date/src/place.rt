@@ -5,7 +5,7 @@ ghost use Rattle.lk_types.specs.declared.filter.Period.TheVariants.{Day, Week, M
 ghost use Rattle.lk_filter_date.specs.Dates.{IsDates, written_date, written_count, unit_form, unit_letters, units_form, period_form, dated_form, counted_form, beside_form, current_form, null_form, item_form, further_form, dates_form};
 
 use crate::forms::{count_form, date_form};
-use crate::words::unit_letters;
+use crate::words::{Plurality, unit_letters};
 use lk_grammar::{Form, judge, listed};
 use lk_types::Period;
 use lk_val::NoMemory;
@@ -121,11 +121,11 @@ fn units_form(alloc: Global) -> Result<Form, NoMemory>
 fn unit_form(alloc: Global, period: Period) -> Result<Form, NoMemory>
     ensures { IfOk result (λ form. form ≡ unit_form period) }
 {
-    let plural = Form::word(alloc, b" ", unit_letters(period, true))?;
+    let plural = Form::word(alloc, b" ", unit_letters(period, Plurality::Plural))?;
     Form::either(
         alloc,
         plural,
-        Form::word(alloc, b" ", unit_letters(period, false))?,
+        Form::word(alloc, b" ", unit_letters(period, Plurality::Singular))?,
     )
 }
 

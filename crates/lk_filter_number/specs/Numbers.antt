@@ -28,6 +28,12 @@ use Rattle.lk_filter_number.specs.declared.number.items.WrittenEnd.TheVariants a
 use Rattle.lk_filter_number.specs.declared.number.items.Compared.{Compared}
 use Rattle.lk_filter_number.specs.declared.number.items.Order.{Order}
 use Rattle.lk_filter_number.specs.declared.number.items.Order.TheVariants as order
+use Rattle.lk_filter_number.specs.declared.number.items.Bracket.{Bracket}
+use Rattle.lk_filter_number.specs.declared.number.items.Bracket.TheVariants.{Square, Round}
+use Rattle.lk_filter_number.specs.declared.number.items.UnlikeSign.{UnlikeSign}
+use Rattle.lk_filter_number.specs.declared.number.items.UnlikeSign.TheVariants.{Angles, Exclamation}
+use Rattle.lk_filter_number.specs.declared.number.items.Separator.{Separator}
+use Rattle.lk_filter_number.specs.declared.number.items.Separator.TheVariants as separator
 use Rattle.lk_filter_number.specs.declared.number.items.NumberRange.{NumberRange}
 use Rattle.lk_filter_number.specs.declared.number.items.NumberRange.TheVariants.{Is, From, UpTo, Between, Compare, Interval}
 use Rattle.lk_filter_number.specs.declared.number.items.NumberItem.{NumberItem}
@@ -66,13 +72,17 @@ order_word order.AtMost = word.AtMost
 order_word order.Greater = word.Greater
 order_word order.AtLeast = word.AtLeast
 
-abbrev pub open_word : Bool → NumberWord
-open_word true = word.OpenSquare
-open_word false = word.OpenRound
+abbrev pub open_word : Bracket → NumberWord
+open_word Square = word.OpenSquare
+open_word Round = word.OpenRound
 
-abbrev pub close_word : Bool → NumberWord
-close_word true = word.CloseSquare
-close_word false = word.CloseRound
+abbrev pub close_word : Bracket → NumberWord
+close_word Square = word.CloseSquare
+close_word Round = word.CloseRound
+
+abbrev pub unlike_word : UnlikeSign → NumberWord
+unlike_word Angles = word.Unlike
+unlike_word Exclamation = word.Unequal
 
 abbrev pub end_token : WrittenEnd → NumberToken
 end_token (end.Number n) = Literal n
@@ -90,22 +100,21 @@ range_tokens (From n) = Literal n ∷ Word word.To ∷ []
 range_tokens (UpTo n) = Word word.To ∷ Literal n ∷ []
 range_tokens (Between m n) = Literal m ∷ Word word.To ∷ Literal n ∷ []
 range_tokens (Compare c more) = Word (order_word c.comparison) ∷ Literal c.number ∷ and_tokens more
-range_tokens (Interval square low high close) = Word (open_word square) ∷ end_token low ∷ Word word.Comma ∷ end_token high ∷ Word (close_word close) ∷ []
+range_tokens (Interval bracket low high close) = Word (open_word bracket) ∷ end_token low ∷ Word word.Comma ∷ end_token high ∷ Word (close_word close) ∷ []
 
 abbrev pub item_tokens : NumberItem → List NumberToken
 item_tokens (Range true r) = Word word.Not ∷ range_tokens r
 item_tokens (Range false r) = range_tokens r
 item_tokens (Null true) = Word word.Not ∷ Word word.Null ∷ []
 item_tokens (Null false) = Word word.Null ∷ []
-item_tokens (Unlike true n) = Word word.Unequal ∷ Literal n ∷ []
-item_tokens (Unlike false n) = Word word.Unlike ∷ Literal n ∷ []
+item_tokens (Unlike sign n) = Word (unlike_word sign) ∷ Literal n ∷ []
 
-abbrev pub between_word : Bool → NumberWord
-between_word true = word.Or
-between_word false = word.Comma
+abbrev pub between_word : Separator → NumberWord
+between_word separator.Comma = word.Comma
+between_word separator.Or = word.Or
 
 abbrev pub more_tokens : FurtherItem → List NumberToken
-more_tokens further = Word (between_word further.with_or) ∷ item_tokens further.item
+more_tokens further = Word (between_word further.separator) ∷ item_tokens further.item
 
 -- nothing, or the items with a comma or `OR` between each two
 abbrev pub number_tokens : Option NumberItems → List NumberToken
@@ -143,6 +152,11 @@ abbrev pub compares_of : List Compared → Option (List (Comparison × Num))
 compares_of [] = Some []
 compares_of (c ∷ more) = option_and_then (λ n. option_map (λ rest. (comparison_of c.comparison, n) ∷ rest) (compares_of more)) (num_at c.number)
 
+-- the number at a square bracket belongs to the interval
+abbrev pub is_square : Bracket → Bool
+is_square Square = true
+is_square Round = false
+
 -- the test of a range, where each of its numbers reads
 abbrev pub range_test : NumberRange → Option Test
 range_test (Is n) = option_map test.Is (num_at n)
@@ -150,19 +164,19 @@ range_test (From n) = option_map (λ low. test.To (Some low) None) (num_at n)
 range_test (UpTo n) = option_map (λ high. test.To None (Some high)) (num_at n)
 range_test (Between m n) = option_and_then (λ low. option_map (λ high. test.To (Some low) (Some high)) (num_at n)) (num_at m)
 range_test (Compare c more) = option_map test.Compare (compares_of (c ∷ more))
-range_test (Interval square low high close) =
-    option_and_then (λ from. option_map (λ upto. test.Range (record { edge = from; closed = square }) (record { edge = upto; closed = close })) (edge_of high)) (edge_of low)
+range_test (Interval bracket low high close) =
+    option_and_then (λ from. option_map (λ upto. test.Range (record { edge = from; closed = is_square bracket }) (record { edge = upto; closed = is_square close })) (edge_of high)) (edge_of low)
 
 abbrev pub item_test : NumberItem → Option Test
 item_test (Range negated r) = range_test r
 item_test (Null negated) = Some test.Null
-item_test (Unlike unequal n) = option_map test.Is (num_at n)
+item_test (Unlike sign n) = option_map test.Is (num_at n)
 
 -- `NOT`, `<>` or `!=` stands before it
 abbrev pub is_negated : NumberItem → Bool
 is_negated (Range negated r) = negated
 is_negated (Null negated) = negated
-is_negated (Unlike unequal n) = true
+is_negated (Unlike sign n) = true
 
 -- the item is a number
 abbrev pub is_plain : NumberItem → Bool
@@ -289,9 +303,9 @@ range_up_to tokens = option_and_then (λ rest. option_map (λ n. (UpTo n.0, n.1)
 abbrev pub range_compared : List NumberToken → Option (NumberRange × List NumberToken)
 range_compared tokens = option_map (λ c. (Compare c.0 (further_compared c.1).0, (further_compared c.1).1)) (first_compared tokens)
 
--- one of two words: true for the first
-abbrev pub one_word : NumberWord → NumberWord → List NumberToken → Option (Bool × List NumberToken)
-one_word w v tokens = option_or (option_map (λ rest. (true, rest)) (behind_word w tokens)) (option_map (λ rest. (false, rest)) (behind_word v tokens))
+-- what one of two words stands for, and what is behind it
+abbrev pub one_word : {A : Type 0} → NumberWord → A → NumberWord → A → List NumberToken → Option (A × List NumberToken)
+one_word w a v b tokens = option_or (option_map (λ rest. (a, rest)) (behind_word w tokens)) (option_map (λ rest. (b, rest)) (behind_word v tokens))
 
 abbrev pub first_end : List NumberToken → Option (WrittenEnd × List NumberToken)
 first_end tokens =
@@ -299,12 +313,12 @@ first_end tokens =
     (option_or (option_map (λ rest. (end.Inf, rest)) (behind_word word.Inf tokens)) (option_map (λ rest. (end.MinusInf, rest)) (behind_word word.MinusInf tokens)))
 
 -- an end with a comma before it, and the bracket behind it
-abbrev pub interval_end : Bool → WrittenEnd → List NumberToken → Option (NumberRange × List NumberToken)
-interval_end square low tokens =
-    option_and_then (λ rest. option_and_then (λ high. option_map (λ close. (Interval square low high.0 close.0, close.1)) (one_word word.CloseSquare word.CloseRound high.1)) (first_end rest)) (behind_word word.Comma tokens)
+abbrev pub interval_end : Bracket → WrittenEnd → List NumberToken → Option (NumberRange × List NumberToken)
+interval_end bracket low tokens =
+    option_and_then (λ rest. option_and_then (λ high. option_map (λ close. (Interval bracket low high.0 close.0, close.1)) (one_word word.CloseSquare Square word.CloseRound Round high.1)) (first_end rest)) (behind_word word.Comma tokens)
 
 abbrev pub range_interval : List NumberToken → Option (NumberRange × List NumberToken)
-range_interval tokens = option_and_then (λ left. option_and_then (λ low. interval_end left.0 low.0 low.1) (first_end left.1)) (one_word word.OpenSquare word.OpenRound tokens)
+range_interval tokens = option_and_then (λ left. option_and_then (λ low. interval_end left.0 low.0 low.1) (first_end left.1)) (one_word word.OpenSquare Square word.OpenRound Round tokens)
 
 abbrev pub range_of : List NumberToken → Option (NumberRange × List NumberToken)
 range_of tokens = option_or (range_from_number tokens) (option_or (range_up_to tokens) (option_or (range_compared tokens) (range_interval tokens)))
@@ -315,7 +329,7 @@ tested negated tokens = option_or (option_map (λ rest. (Null negated, rest)) (b
 
 -- a number behind `<>` or `!=`
 abbrev pub differing : List NumberToken → Option (NumberItem × List NumberToken)
-differing tokens = option_and_then (λ unequal. option_map (λ n. (Unlike unequal.0 n.0, n.1)) (first_number unequal.1)) (one_word word.Unequal word.Unlike tokens)
+differing tokens = option_and_then (λ sign. option_map (λ n. (Unlike sign.0 n.0, n.1)) (first_number sign.1)) (one_word word.Unequal Exclamation word.Unlike Angles tokens)
 
 -- the item that the tokens begin with
 abbrev pub item_of : List NumberToken → Option (NumberItem × List NumberToken)
@@ -323,7 +337,7 @@ item_of tokens = option_or (option_and_then (tested true) (behind_word word.Not 
 
 -- an item with a comma or `OR` before it
 abbrev pub further_item : List NumberToken → Option (FurtherItem × List NumberToken)
-further_item tokens = option_and_then (λ with_or. option_map (λ x. (record { with_or = with_or.0; item = x.0 }, x.1)) (item_of with_or.1)) (one_word word.Or word.Comma tokens)
+further_item tokens = option_and_then (λ before. option_map (λ x. (record { separator = before.0; item = x.0 }, x.1)) (item_of before.1)) (one_word word.Or separator.Or word.Comma separator.Comma tokens)
 
 -- the further item, and those behind it
 abbrev pub then_further : Option (FurtherItem × List NumberToken) → (List NumberToken → Option (List FurtherItem)) → Option (List FurtherItem)

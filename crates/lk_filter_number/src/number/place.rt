@@ -3,7 +3,7 @@ ghost use Rattle.lk_grammar.specs.Forms.{IsText, seq, either, many, optional};
 ghost use Rattle.lk_grammar.specs.Places.{Judges};
 ghost use Rattle.lk_filter_number.specs.Numbers.{IsNumbers, IsNumbersPlace, any_word, written_number, order_form, compared_form, comparisons_form, from_form, up_to_form, end_form, interval_form, range_form, item_form, further_form, number_form, is_number_byte, is_unread, unread_from, before_place};
 
-use crate::number::tests_of::num_at;
+use crate::number::meaning::num_at;
 use lk_grammar::{Form, Literals, Numbers, judge, listed, number};
 use lk_val::NoMemory;
 use std::alloc::Global;

@@ -1,0 +1,37 @@
+use crate::fault::CaseFault;
+use lk_filter::FilterKind;
+
+/// What a case is about.
+#[derive(Clone, Copy, Debug, PartialEq, Eq)]
+pub enum Subject {
+    /// Values of a column, by a filter of its kind.
+    Column(FilterKind),
+    /// Exact fractions, by a filter of numbers.
+    Fraction,
+    /// The filters of a small model that is built here.
+    Model,
+}
+
+impl Subject {
+    /// The subject of this name.
+    pub fn of(name: &str) -> Result<Subject, CaseFault> {
+        match name {
+            "text" => Ok(Subject::Column(FilterKind::Text)),
+            "number" => Ok(Subject::Column(FilterKind::Number)),
+            "date" => Ok(Subject::Column(FilterKind::Date)),
+            "truth" => Ok(Subject::Column(FilterKind::Truth)),
+            "fraction" => Ok(Subject::Fraction),
+            "model" => Ok(Subject::Model),
+            _ => Err(CaseFault::NoSuchCase),
+        }
+    }
+
+    /// The kind of its filters.
+    pub fn kind(self) -> FilterKind {
+        match self {
+            Subject::Column(kind) => kind,
+            Subject::Fraction => FilterKind::Number,
+            Subject::Model => FilterKind::Date,
+        }
+    }
+}
