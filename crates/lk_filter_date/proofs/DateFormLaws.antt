@@ -17,7 +17,8 @@ use Rattle.lk_types.specs.declared.filter.Test.{Test}
 use Rattle.lk_types.specs.declared.filter.Test.TheVariants as test
 use Rattle.lk_grammar.specs.Listed.{run_form, further_tokens, listed, before_others}
 use Rattle.lk_filter_date.specs.DateTexts.{days_of, count_of, each_from, date_form, count_form, date_literal}
-use Rattle.lk_filter_date.specs.Dates.{letters_of, DateToken, item_tokens, more_tokens, IsDateText, is_day, item_test, is_exclude, is_relative, own_test, included, excluded, date_filter, IsDates, written_date, unit_form, units_form, period_form, item_form, further_form, dates_form}
+use Rattle.lk_filter_date.specs.Dates.{letters_of, DateToken, item_tokens, more_tokens, IsDateText, is_day, item_test, is_exclude, is_relative, own_test, included, excluded, date_filter, IsDates}
+use Rattle.lk_filter_date.specs.DateReading.{written_date, unit_form, units_form, period_form, item_form, further_form, dates_form}
 use Rattle.lk_filter_date.specs.declared.words.DateWord.{DateWord}
 use Rattle.lk_filter_date.specs.declared.words.Plurality.{Plurality}
 use Rattle.lk_filter_date.specs.declared.words.Plurality.TheVariants.{Plural, Singular}

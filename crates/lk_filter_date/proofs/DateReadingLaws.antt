@@ -2,7 +2,8 @@
 use Rattle.std.proofs.Common.{◌≡◌, ℕ, ◌≤◌, true, false, List, [], ◌∷◌, ◌++◌, length, Option, Some, None, option_map, refl, sym, ap, ◌∙◌, length-append, arith}
 use Rattle.lk_grammar.specs.declared.literals.Token.TheVariants.{Word, Literal}
 use Rattle.lk_grammar.specs.Listed.{further_tokens}
-use Rattle.lk_filter_date.specs.Dates.{DateToken, item_tokens, more_tokens, date_tokens, item_of_literal, item_of_word, item_of, further_item, then_further, further_from, items_of}
+use Rattle.lk_filter_date.specs.Dates.{DateToken, item_tokens, more_tokens, date_tokens}
+use Rattle.lk_filter_date.specs.DateReading.{item_of_literal, item_of_word, item_of, further_item, then_further, further_from, items_of}
 use Rattle.lk_filter_date.specs.declared.words.DateWord.{DateWord}
 use Rattle.lk_filter_date.specs.declared.words.Plurality.TheVariants.{Singular}
 use Rattle.lk_filter_date.specs.declared.words.DateWord.TheVariants as word

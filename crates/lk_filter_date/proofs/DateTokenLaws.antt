@@ -17,7 +17,8 @@ use Rattle.lk_types.specs.declared.filter.Period.{Period}
 use Rattle.lk_types.specs.declared.filter.Period.TheVariants.{Day, Week, Month, Quarter, Year}
 use Rattle.lk_grammar.specs.Listed.{further_tokens}
 use Rattle.lk_filter_date.specs.DateTexts.{date_literal, date_length, is_of_date}
-use Rattle.lk_filter_date.specs.Dates.{letters_of, DateToken, item_tokens, more_tokens, date_tokens, items_of, date_filter, IsDateFilter}
+use Rattle.lk_filter_date.specs.Dates.{letters_of, DateToken, item_tokens, more_tokens, date_tokens, date_filter, IsDateFilter}
+use Rattle.lk_filter_date.specs.DateReading.{items_of}
 use Rattle.lk_filter_date.specs.declared.words.DateWord.{DateWord}
 use Rattle.lk_filter_date.specs.declared.words.Plurality.TheVariants.{Plural, Singular}
 use Rattle.lk_filter_date.specs.declared.words.DateWord.TheVariants as word

@@ -1,6 +1,7 @@
 ghost use Rattle.std.specs.Prelude.{◌≡◌, ◌∷◌, Some, IfOk, IfSome, option_map};
 ghost use Rattle.std.specs.Option.{option_and_then};
-ghost use Rattle.lk_filter_date.specs.Dates.{IsDateFilter, date_filter, item_of_literal, item_of_word, item_of, further_item, further_from, items_of};
+ghost use Rattle.lk_filter_date.specs.Dates.{IsDateFilter, date_filter};
+ghost use Rattle.lk_filter_date.specs.DateReading.{item_of_literal, item_of_word, item_of, further_item, further_from, items_of};
 ghost use Rattle.lk_types.specs.declared.filter.Filter.{Filter};
 
 use crate::items::DateItem;

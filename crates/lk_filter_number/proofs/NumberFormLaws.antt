@@ -10,7 +10,8 @@ use Rattle.lk_grammar.specs.declared.literals.Token.TheVariants.{Word, Literal}
 use Rattle.lk_grammar.proofs.LiteralLaws.{exact_text, text_exact}
 use Rattle.lk_grammar.proofs.PlaceLaws.{same_judgement}
 use Rattle.lk_grammar.specs.Listed.{run_form, further_tokens, listed}
-use Rattle.lk_filter_number.specs.Numbers.{letters_of, NumberToken, order_word, open_word, close_word, end_token, and_tokens, range_tokens, item_tokens, between_word, more_tokens, IsNumberText, IsNumbers, any_word, written_number, order_form, compared_form, end_form, interval_form, range_form, item_form, further_form, number_form}
+use Rattle.lk_filter_number.specs.Numbers.{letters_of, NumberToken, order_word, open_word, close_word, end_token, and_tokens, range_tokens, item_tokens, between_word, more_tokens, IsNumberText, IsNumbers}
+use Rattle.lk_filter_number.specs.NumberReading.{any_word, written_number, order_form, compared_form, end_form, interval_form, range_form, item_form, further_form, number_form}
 use Rattle.lk_filter_number.specs.declared.number.words.NumberWord.{NumberWord}
 use Rattle.lk_filter_number.specs.declared.number.words.NumberWord.TheVariants as word
 use Rattle.lk_filter_number.specs.declared.number.items.WrittenEnd.{WrittenEnd}

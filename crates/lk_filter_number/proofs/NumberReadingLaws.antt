@@ -4,7 +4,8 @@ use Rattle.std.specs.Option.{option_and_then, option_or}
 use Rattle.std.proofs.lemmas.Bool.{false≢true}
 use Rattle.lk_grammar.specs.declared.literals.Token.TheVariants.{Word, Literal}
 use Rattle.lk_grammar.specs.Listed.{further_tokens}
-use Rattle.lk_filter_number.specs.Numbers.{NumberToken, order_word, open_word, close_word, unlike_word, end_token, and_tokens, range_tokens, item_tokens, between_word, more_tokens, number_tokens, is_same_word, behind_word, first_number, order_of, first_order, first_compared, and_compared, with_compared, further_compared, after_to, after_number, range_from_number, range_up_to, range_compared, one_word, first_end, interval_end, range_interval, range_of, tested, differing, item_of, further_item, then_further, further_from, items_of}
+use Rattle.lk_filter_number.specs.Numbers.{NumberToken, order_word, open_word, close_word, unlike_word, end_token, and_tokens, range_tokens, item_tokens, between_word, more_tokens, number_tokens}
+use Rattle.lk_filter_number.specs.NumberReading.{is_same_word, behind_word, first_number, order_of, first_order, first_compared, and_compared, with_compared, further_compared, after_to, after_number, range_from_number, range_up_to, range_compared, one_word, first_end, interval_end, range_interval, range_of, tested, differing, item_of, further_item, then_further, further_from, items_of}
 use Rattle.lk_filter_number.specs.declared.number.words.NumberWord.{NumberWord}
 use Rattle.lk_filter_number.specs.declared.number.words.NumberWord.TheVariants as word
 use Rattle.lk_filter_number.specs.declared.number.items.WrittenEnd.{WrittenEnd}

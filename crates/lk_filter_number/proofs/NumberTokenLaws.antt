@@ -17,7 +17,8 @@ use Rattle.lk_grammar.proofs.TokenLaws.{tokens_spelled}
 use Rattle.lk_grammar.proofs.NumberLaws.{number_reader}
 use Rattle.lk_types.specs.declared.filter.Filter.{Filter}
 use Rattle.lk_grammar.specs.Listed.{further_tokens}
-use Rattle.lk_filter_number.specs.Numbers.{letters_of, NumberToken, order_word, open_word, close_word, end_token, and_tokens, range_tokens, item_tokens, between_word, more_tokens, number_tokens, items_of, number_filter, IsNumberFilter}
+use Rattle.lk_filter_number.specs.Numbers.{letters_of, NumberToken, order_word, open_word, close_word, end_token, and_tokens, range_tokens, item_tokens, between_word, more_tokens, number_tokens, number_filter, IsNumberFilter}
+use Rattle.lk_filter_number.specs.NumberReading.{items_of}
 use Rattle.lk_filter_number.specs.declared.number.words.NumberWord.{NumberWord}
 use Rattle.lk_filter_number.specs.declared.number.words.NumberWord.TheVariants as word
 use Rattle.lk_filter_number.specs.declared.number.items.WrittenEnd.{WrittenEnd}

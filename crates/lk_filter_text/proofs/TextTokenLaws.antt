@@ -12,7 +12,8 @@ use Rattle.lk_types.specs.declared.filter.Filter.{Filter}
 use Rattle.lk_filter_text.specs.Characters.{plain_form, character_length, goes_on, begins_mark}
 use Rattle.lk_filter_text.specs.declared.words.TextWord.{TextWord}
 use Rattle.lk_filter_text.specs.declared.words.TextWord.TheVariants as word
-use Rattle.lk_filter_text.specs.Texts.{letters_of, TextToken, text_tokens, text_filter, read_all, IsTextFilter}
+use Rattle.lk_filter_text.specs.Texts.{letters_of, TextToken, text_tokens, text_filter, IsTextFilter}
+use Rattle.lk_filter_text.specs.TextReading.{read_all}
 use Rattle.lk_filter_text.proofs.CharacterLaws.{character_reader}
 use Rattle.lk_filter_text.proofs.TextReadingLaws.{all_read, all_found}
 use Rattle.lk_grammar.proofs.ReadingLaws.{of_each, none_some, some_is, map_before}

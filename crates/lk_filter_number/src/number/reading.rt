@@ -1,6 +1,7 @@
 ghost use Rattle.std.specs.Prelude.{◌≡◌, ◌∷◌, List, Some, IfOk, IfSome, option_map};
 ghost use Rattle.std.specs.Option.{option_and_then};
-ghost use Rattle.lk_filter_number.specs.Numbers.{IsNumberFilter, NumberToken, number_filter, behind_word, first_number, order_of, first_order, first_compared, and_compared, further_compared, range_from_number, range_up_to, range_compared, one_word, first_end, interval_end, range_interval, range_of, tested, differing, item_of, further_item, further_from, items_of, is_same_word};
+ghost use Rattle.lk_filter_number.specs.Numbers.{IsNumberFilter, NumberToken, number_filter};
+ghost use Rattle.lk_filter_number.specs.NumberReading.{behind_word, first_number, order_of, first_order, first_compared, and_compared, further_compared, range_from_number, range_up_to, range_compared, one_word, first_end, interval_end, range_interval, range_of, tested, differing, item_of, further_item, further_from, items_of, is_same_word};
 ghost use Rattle.lk_types.specs.declared.filter.Filter.{Filter};
 
 use crate::number::items::{
