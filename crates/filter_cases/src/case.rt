@@ -1,9 +1,7 @@
 use crate::answer::Answer;
-use crate::example::filter_of_model;
-use crate::fault::CaseFault;
 use crate::subject::Subject;
 use crate::values::{fraction_of, moment_of, value_of};
-use crate::written::written;
+use case_lines::{CaseFault, written};
 use lk_filter::{FilterFault, FilterKind, passes, passes_frac, place, read_filter, same};
 use lk_types::Filter;
 use std::alloc::Global;
@@ -26,7 +24,7 @@ pub fn answer_line(alloc: Global, line: &str) -> Result<Answer<'_>, CaseFault> {
     match (case.subject, case.question) {
         (Subject::Column(kind), "refused") => refusal(alloc, kind, case.filter),
         _ => {
-            let filter = filter_of(alloc, &case)?;
+            let filter = read(alloc, case.subject.kind(), case.filter)?;
             answer_of(alloc, &case, filter)
         }
     }
@@ -45,16 +43,6 @@ fn case_of(line: &str) -> Result<Case<'_>, CaseFault> {
         question,
         clock,
     })
-}
-
-fn filter_of(alloc: Global, case: &Case<'_>) -> Result<Filter, CaseFault> {
-    match case.subject {
-        Subject::Model => match moment_of(alloc, case.clock)? {
-            Some(now) => filter_of_model(alloc, case.filter, now),
-            None => Err(CaseFault::NoSuchCase),
-        },
-        subject => read(alloc, subject.kind(), case.filter),
-    }
 }
 
 fn read(alloc: Global, kind: FilterKind, text: &str) -> Result<Filter, CaseFault> {

@@ -3,11 +3,8 @@
 
 mod answer;
 mod case;
-mod example;
-mod fault;
 mod subject;
 mod values;
-mod written;
 
 use case::answer_line;
 use std::io;

@@ -1,4 +1,4 @@
-use crate::fault::CaseFault;
+use case_lines::CaseFault;
 use lk_filter::FilterKind;
 
 /// What a case is about.
@@ -8,8 +8,6 @@ pub enum Subject {
     Column(FilterKind),
     /// Exact fractions, by a filter of numbers.
     Fraction,
-    /// The filters of a small model that is built here.
-    Model,
 }
 
 impl Subject {
@@ -21,7 +19,6 @@ impl Subject {
             "date" => Ok(Subject::Column(FilterKind::Date)),
             "truth" => Ok(Subject::Column(FilterKind::Truth)),
             "fraction" => Ok(Subject::Fraction),
-            "model" => Ok(Subject::Model),
             _ => Err(CaseFault::NoSuchCase),
         }
     }
@@ -31,7 +28,6 @@ impl Subject {
         match self {
             Subject::Column(kind) => kind,
             Subject::Fraction => FilterKind::Number,
-            Subject::Model => FilterKind::Date,
         }
     }
 }

@@ -1,6 +1,6 @@
 // Values and moments as a line writes them.
 
-use crate::fault::CaseFault;
+use case_lines::CaseFault;
 use lk_filter::{FilterKind, read_filter};
 use lk_types::Test;
 use lk_val::{Frac, Num, Text, Value};

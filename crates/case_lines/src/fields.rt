@@ -1,6 +1,6 @@
-ghost use Rattle.std.specs.Prelude.{◌<◌, IfOk};
-
 // Texts as a line writes them: `\n`, `\r`, `\t`, `\\` and `\xff` stand for one byte, and `3 times a` for `aaa`.
+
+ghost use Rattle.std.specs.Prelude.{◌<◌, IfOk};
 
 use crate::fault::CaseFault;
 use lk_val::Bytes;
@@ -9,34 +9,31 @@ use std::alloc::Global;
 // The most copies of a text.
 const MOST_COPIES: u32 = 10_000;
 
-/// The bytes that a field of a line stands for.
-pub fn written(alloc: Global, field: &str) -> Result<Bytes, CaseFault> {
-    let mut bytes = Bytes::new(alloc);
-    match copies_of(field) {
-        Some((count, text)) => {
-            let copy = unescaped(alloc, text)?;
-            for _ in 0..count {
-                bytes.append(copy.as_slice())?;
-            }
-        }
-        None => bytes.append(unescaped(alloc, field)?.as_slice())?,
-    }
-    Ok(bytes)
-}
-
-/// The bytes of the fields, one behind the other.
-pub fn written_pieces(alloc: Global, fields: &str) -> Result<Bytes, CaseFault> {
+/// The bytes that a line's fields stand for, one behind the other.
+pub fn written(alloc: Global, fields: &str) -> Result<Bytes, CaseFault> {
     let mut bytes = Bytes::new(alloc);
     let mut rest = fields;
     for _ in 0..fields.len() {
         let Some((field, behind)) = rest.split_once(" | ") else {
             break;
         };
-        bytes.append(written(alloc, field)?.as_slice())?;
+        push_field(alloc, &mut bytes, field)?;
         rest = behind;
     }
-    bytes.append(written(alloc, rest)?.as_slice())?;
+    push_field(alloc, &mut bytes, rest)?;
     Ok(bytes)
+}
+
+fn push_field(alloc: Global, bytes: &mut Bytes, field: &str) -> Result<(), CaseFault> {
+    let (count, text) = match copies_of(field) {
+        Some(copies) => copies,
+        None => (1, field),
+    };
+    let copy = unescaped(alloc, text)?;
+    for _ in 0..count {
+        bytes.append(copy.as_slice())?;
+    }
+    Ok(())
 }
 
 // How often a text is to stand, and the text.
