@@ -5,3 +5,5 @@ pub mod ModelSteps
 pub mod ComparingSteps
 pub mod UnitLaws
 pub mod RelativeLaws
+pub mod OneFilterLaws
+pub mod PlacedModelLaws

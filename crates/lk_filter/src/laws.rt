@@ -1,6 +1,6 @@
-// Laws of relative dates and of sameness. Each is a function that computes nothing: its clauses are the law.
+// Laws of texts, of relative dates and of sameness. Each is a function that computes nothing: its clauses are the law.
 
-ghost use Rattle.std.specs.Prelude.{◌≡◌, ◌+◌, ◌<◌, ◌&&◌, ◌==◌, nat_le, nat_lt, ℕ, ℤ, Option, true, false};
+ghost use Rattle.std.specs.Prelude.{◌≡◌, ◌+◌, ◌<◌, ◌&&◌, ◌==◌, nat_le, nat_lt, ℕ, ℤ, List, Option, true, false};
 ghost use Rattle.lk_val.specs.Fractions.{Fraction};
 ghost use Rattle.lk_val.specs.declared.value.Value.{Value};
 ghost use Rattle.lk_types.specs.Calendar.{from_1970};
@@ -9,13 +9,28 @@ ghost use Rattle.lk_types.specs.declared.filter.Filter.{Filter};
 ghost use Rattle.lk_types.specs.declared.filter.Period.{Period};
 ghost use Rattle.lk_types.specs.declared.filter.Test.{Test};
 ghost use Rattle.lk_types.specs.declared.filter.Test.TheVariants as test;
+ghost use Rattle.lk_types.specs.declared.model.Model.{Model};
+ghost use Rattle.lk_filter.specs.declared.reading.FilterKind.{FilterKind};
+ghost use Rattle.lk_filter.specs.FilterTexts.{IsFilterText, IsFaultPlace};
+ghost use Rattle.lk_filter.specs.PlacedModel.{placed_model, is_placed_model};
 ghost use Rattle.lk_filter.specs.Placing.{IsInItsUnit, IsWithinYears, is_placed};
 
-/// A placed filter has no relative date, and a filter without relative dates keeps its tests. A law: it computes
-/// nothing.
+/// A text spells one filter of a kind, if any. A law: it computes nothing.
+pub fn filter_texts_spell_one_filter()
+    ensures { (k : FilterKind) (text : List ℕ) (f g : Filter) → IsFilterText k f text → IsFilterText k g text → f ≡ g }
+{}
+
+/// A text has one place at which it is refused as a filter of a kind. A law: it computes nothing.
+pub fn faults_have_one_place()
+    ensures { (k : FilterKind) (text : List ℕ) (m n : ℕ) → IsFaultPlace k text m → IsFaultPlace k text n → m ≡ n }
+{}
+
+/// A placed filter has no relative date, a filter without relative dates keeps its tests, and no filter of a placed
+/// model has a relative date. A law: it computes nothing.
 pub fn placing_leaves_no_relative_date()
     ensures placed { (now : ℤ) (f : Filter) → is_placed (placed now f) ≡ true }
     ensures kept { (now : ℤ) (f : Filter) → is_placed f ≡ true → placed now f ≡ record f { relative = false } }
+    ensures models { (now : ℤ) (m : Model) → is_placed_model (placed_model now m) ≡ true }
 {}
 
 /// The units of a period divide the days: each day lies in the unit that has its number, and each unit begins before

@@ -12,9 +12,13 @@ use std::alloc::Global;
 /// What a filter is on: texts, numbers, days and moments, or truth values.
 #[derive(Clone, Copy, Debug, PartialEq, Eq)]
 pub enum FilterKind {
+    /// Texts, by patterns.
     Text,
+    /// Numbers, by ranges.
     Number,
+    /// Days and moments, by dates and relative dates.
     Date,
+    /// Truth values.
     Truth,
 }
 
@@ -58,7 +62,7 @@ pub fn read_filter(alloc: Global, kind: FilterKind, text: &[u8]) -> Result<Filte
     }
     match filter_of(alloc, kind, text)? {
         Some(filter) => Ok(filter),
-        None => Err(FilterFault::Syntax(short_place(place_of(alloc, kind, text)?)?)),
+        None => Err(FilterFault::Syntax(place_of(alloc, kind, text)? as u32)),
     }
 }
 
@@ -72,13 +76,6 @@ fn filter_of(alloc: Global, kind: FilterKind, text: &[u8]) -> Result<Option<Filt
         FilterKind::Date => read_dates(alloc, text),
         FilterKind::Truth => read_truths(alloc, text),
     }
-}
-
-// A place in 32 bits.
-fn short_place(place: usize) -> Result<u32, NoMemory>
-    ensures { IfOk result (λ short. short ≡ place) }
-{
-    u32::try_from(place).map_err(|_| NoMemory)
 }
 
 /// The place of a text that is no filter of the kind.

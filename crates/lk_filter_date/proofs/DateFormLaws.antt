@@ -1,5 +1,5 @@
 -- Filters of dates: the texts of the form are those that spell items whose dates and counts read.
-use Rattle.std.proofs.Common.{◌≡◌, ◌⊎◌, inl, inr, ℕ, zero, suc, ◌-◌, ◌+◌, Bool, true, false, List, [], ◌∷◌, ◌++◌, Option, Some, None, option_map, if◌then◌else◌, refl, sym, ap, subst, ◌∙◌, append-nil, arith}
+use Rattle.std.proofs.Common.{◌≡◌, ◌⊎◌, inl, inr, ℕ, zero, suc, ◌-◌, ◌+◌, true, false, List, [], ◌∷◌, ◌++◌, Option, Some, None, option_map, if◌then◌else◌, refl, sym, ap, subst, ◌∙◌, append-nil, arith}
 use Rattle.std.specs.List.{list_any, AllByRecursion}
 use Rattle.std.proofs.lemmas.Bool.{false≢true}
 use Rattle.lk_grammar.specs.Forms.{Form, nothing, IsText, IsJoined, seq, either, optional, is_live}
@@ -17,8 +17,11 @@ use Rattle.lk_types.specs.declared.filter.Test.{Test}
 use Rattle.lk_types.specs.declared.filter.Test.TheVariants as test
 use Rattle.lk_grammar.specs.Listed.{run_form, further_tokens, listed, before_others}
 use Rattle.lk_filter_date.specs.DateTexts.{days_of, count_of, each_from, date_form, count_form, date_literal}
-use Rattle.lk_filter_date.specs.Dates.{letters_of, DateToken, item_tokens, more_tokens, IsDateText, is_day, item_test, is_exclude, is_relative, own_test, included, excluded, date_filter, IsDates, written_date, unit_form, units_form, period_form, item_form, further_form, dates_form}
+use Rattle.lk_filter_date.specs.Dates.{letters_of, DateToken, item_tokens, more_tokens, IsDateText, is_day, item_test, is_exclude, is_relative, own_test, included, excluded, date_filter, IsDates}
+use Rattle.lk_filter_date.specs.DateReading.{written_date, unit_form, units_form, period_form, item_form, further_form, dates_form}
 use Rattle.lk_filter_date.specs.declared.words.DateWord.{DateWord}
+use Rattle.lk_filter_date.specs.declared.words.Plurality.{Plurality}
+use Rattle.lk_filter_date.specs.declared.words.Plurality.TheVariants.{Plural, Singular}
 use Rattle.lk_filter_date.specs.declared.words.DateWord.TheVariants as word
 use Rattle.lk_filter_date.specs.declared.items.DateItem.{DateItem}
 use Rattle.lk_filter_date.specs.declared.items.DateItem.TheVariants as item
@@ -61,8 +64,8 @@ own_valid item.Today own e = (test.Today, refl)
 own_valid item.Yesterday own e = (test.Yesterday, refl)
 own_valid (item.This period) own e = map_before (λ t. Some t) (item_test (item.This period)) own e (λ t is _. (t, is))
 own_valid (item.Last period) own e = map_before (λ t. Some t) (item_test (item.Last period)) own e (λ t is _. (t, is))
-own_valid (item.Recent count period plural) own e = map_before (λ t. Some t) (item_test (item.Recent count period plural)) own e (λ t is _. (t, is))
-own_valid (item.Ago count period plural) own e = map_before (λ t. Some t) (item_test (item.Ago count period plural)) own e (λ t is _. (t, is))
+own_valid (item.Recent count period plurality) own e = map_before (λ t. Some t) (item_test (item.Recent count period plurality)) own e (λ t is _. (t, is))
+own_valid (item.Ago count period plurality) own e = map_before (λ t. Some t) (item_test (item.Ago count period plurality)) own e (λ t is _. (t, is))
 
 included_valid : (items : List DateItem) (tests : List Test) → included items ≡ Some tests → AllByRecursion IsValid items
 included_valid [] tests e = tt
@@ -142,26 +145,26 @@ word_last w text h = alone (32 ∷ []) (token_form letters_of) (Word w) text h
 
 -- ---- units
 
-unit_there : (period : Period) (plural : Bool) (text : List ℕ) → Free (Word (word.Unit period plural)) text → IsText (unit_form period) text
-unit_there period true text h = inl h
-unit_there period false text h = inr h
+unit_there : (period : Period) (plurality : Plurality) (text : List ℕ) → Free (Word (word.Unit period plurality)) text → IsText (unit_form period) text
+unit_there period Plural text h = inl h
+unit_there period Singular text h = inr h
 
-units_there : (period : Period) (plural : Bool) (text : List ℕ) → Free (Word (word.Unit period plural)) text → IsText units_form text
-units_there Day plural text h = inl (unit_there Day plural text h)
-units_there Week plural text h = inr (inl (unit_there Week plural text h))
-units_there Month plural text h = inr (inr (inl (unit_there Month plural text h)))
-units_there Quarter plural text h = inr (inr (inr (inl (unit_there Quarter plural text h))))
-units_there Year plural text h = inr (inr (inr (inr (unit_there Year plural text h))))
+units_there : (period : Period) (plurality : Plurality) (text : List ℕ) → Free (Word (word.Unit period plurality)) text → IsText units_form text
+units_there Day plurality text h = inl (unit_there Day plurality text h)
+units_there Week plurality text h = inr (inl (unit_there Week plurality text h))
+units_there Month plurality text h = inr (inr (inl (unit_there Month plurality text h)))
+units_there Quarter plurality text h = inr (inr (inr (inl (unit_there Quarter plurality text h))))
+units_there Year plurality text h = inr (inr (inr (inr (unit_there Year plurality text h))))
 
 -- a spelled unit
 record IsUnit (text : List ℕ) : Type 0 where
   period : Period
-  plural : Bool
-  spelled : Free (Word (word.Unit period plural)) text
+  plurality : Plurality
+  spelled : Free (Word (word.Unit period plurality)) text
 
 unit_back : (period : Period) (text : List ℕ) → IsText (unit_form period) text → IsUnit text
-unit_back period text (inl h) = record { period = period; plural = true; spelled = h }
-unit_back period text (inr h) = record { period = period; plural = false; spelled = h }
+unit_back period text (inl h) = record { period = period; plurality = Plural; spelled = h }
+unit_back period text (inr h) = record { period = period; plurality = Singular; spelled = h }
 
 units_back : (text : List ℕ) → IsText units_form text → IsUnit text
 units_back text (inl h) = unit_back Day text h
@@ -170,7 +173,7 @@ units_back text (inr (inr (inl h))) = unit_back Month text h
 units_back text (inr (inr (inr (inl h)))) = unit_back Quarter text h
 units_back text (inr (inr (inr (inr h)))) = unit_back Year text h
 
-period_there : (period : Period) → is_day period ≡ false → (text : List ℕ) → Free (Word (word.Unit period false)) text → IsText period_form text
+period_there : (period : Period) → is_day period ≡ false → (text : List ℕ) → Free (Word (word.Unit period Singular)) text → IsText period_form text
 period_there Day e text h = absurd (false≢true (sym e))
 period_there Week e text h = inl h
 period_there Month e text h = inr (inl h)
@@ -181,7 +184,7 @@ period_there Year e text h = inr (inr (inr h))
 record IsPeriod (text : List ℕ) : Type 0 where
   period : Period
   other : is_day period ≡ false
-  spelled : Free (Word (word.Unit period false)) text
+  spelled : Free (Word (word.Unit period Singular)) text
 
 period_back : (text : List ℕ) → IsText period_form text → IsPeriod text
 period_back text (inl h) = record { period = Week; other = refl; spelled = h }
@@ -224,8 +227,8 @@ valid_literals item.Today h = (tt, tt)
 valid_literals item.Yesterday h = (tt, tt)
 valid_literals (item.This period) h = (tt, (tt, tt))
 valid_literals (item.Last period) h = (tt, (tt, tt))
-valid_literals (item.Recent count period plural) h = (count_is_literal count (one_count (λ n. test.Recent n period) count h.0 h.1), (tt, tt))
-valid_literals (item.Ago count period plural) h = (count_is_literal count (one_count (λ n. test.Ago n period) count h.0 h.1), (tt, (tt, tt)))
+valid_literals (item.Recent count period plurality) h = (count_is_literal count (one_count (λ n. test.Recent n period) count h.0 h.1), (tt, tt))
+valid_literals (item.Ago count period plurality) h = (count_is_literal count (one_count (λ n. test.Ago n period) count h.0 h.1), (tt, (tt, tt)))
 valid_literals (item.Null true) h = (tt, (tt, tt))
 valid_literals (item.Null false) h = (tt, tt)
 
@@ -236,16 +239,16 @@ item_there (item.In date) text v h = inl (ended text (last_there date_form date 
 item_there (item.FromTo from upto) text v h =
     let d = two_dates from upto v.0 v.1 in
     inl (both (literal_there date_form from d.0) (λ t r. inl (both (λ t k. k) (last_there date_form upto d.1) r)) h)
-item_there (item.Recent count period plural) text v h =
-    inr (inl (both (literal_there count_form count (one_count (λ n. test.Recent n period) count v.0 v.1)) (λ t r. ended t (units_there period plural t (last_word (word.Unit period plural) t r)) (inr refl)) h))
-item_there (item.Ago count period plural) text v h =
-    inr (inl (both (literal_there count_form count (one_count (λ n. test.Ago n period) count v.0 v.1)) (λ t r. both (units_there period plural) (λ t k. inl (last_word word.Ago t k)) r) h))
+item_there (item.Recent count period plurality) text v h =
+    inr (inl (both (literal_there count_form count (one_count (λ n. test.Recent n period) count v.0 v.1)) (λ t r. ended t (units_there period plurality t (last_word (word.Unit period plurality) t r)) (inr refl)) h))
+item_there (item.Ago count period plurality) text v h =
+    inr (inl (both (literal_there count_form count (one_count (λ n. test.Ago n period) count v.0 v.1)) (λ t r. both (units_there period plurality) (λ t k. inl (last_word word.Ago t k)) r) h))
 item_there (item.Before date) text v h = inr (inr (inl (both (λ t w. inl w) (last_there date_form date (one_date test.Before date v.0 v.1)) h)))
 item_there (item.After date) text v h = inr (inr (inl (both (λ t w. inr w) (last_there date_form date (one_date test.After date v.0 v.1)) h)))
 item_there (item.This period) text v h =
-    inr (inr (inr (inl (both (λ t w. inl w) (λ t r. period_there period (no_day period (test.This period) v.0 v.1) t (last_word (word.Unit period false) t r)) h))))
+    inr (inr (inr (inl (both (λ t w. inl w) (λ t r. period_there period (no_day period (test.This period) v.0 v.1) t (last_word (word.Unit period Singular) t r)) h))))
 item_there (item.Last period) text v h =
-    inr (inr (inr (inl (both (λ t w. inr w) (λ t r. period_there period (no_day period (test.Last period) v.0 v.1) t (last_word (word.Unit period false) t r)) h))))
+    inr (inr (inr (inl (both (λ t w. inr w) (λ t r. period_there period (no_day period (test.Last period) v.0 v.1) t (last_word (word.Unit period Singular) t r)) h))))
 item_there item.Today text v h = inr (inr (inr (inr (inl (last_word word.Today text h)))))
 item_there item.Yesterday text v h = inr (inr (inr (inr (inr (inl (last_word word.Yesterday text h))))))
 item_there (item.Null true) text v h = inr (inr (inr (inr (inr (inr (both (λ t w. inl w) (last_word word.Null) h))))))
@@ -283,9 +286,9 @@ item_back text (inr (inl h)) = ago_back h.second.second
 
     ago_back : IsText (optional (free (32 ∷ []) (token_form letters_of (Word word.Ago)))) h.second.back → IsItem text
     ago_back (inr none) =
-        (item.Recent w.n u.period u.plural, (test.Recent n.0 u.period, rw n.1 refl), record { front = h.front; back = h.back; joined = h.joined; first = w.spelled; second = record { front = h.second.front; back = h.second.back; joined = h.second.joined; first = u.spelled; second = none } })
+        (item.Recent w.n u.period u.plurality, (test.Recent n.0 u.period, rw n.1 refl), record { front = h.front; back = h.back; joined = h.joined; first = w.spelled; second = record { front = h.second.front; back = h.second.back; joined = h.second.joined; first = u.spelled; second = none } })
     ago_back (inl ago) =
-        (item.Ago w.n u.period u.plural, (test.Ago n.0 u.period, rw n.1 refl), record { front = h.front; back = h.back; joined = h.joined; first = w.spelled; second = record { front = h.second.front; back = h.second.back; joined = h.second.joined; first = u.spelled; second = word_last word.Ago h.second.back ago } })
+        (item.Ago w.n u.period u.plurality, (test.Ago n.0 u.period, rw n.1 refl), record { front = h.front; back = h.back; joined = h.joined; first = w.spelled; second = record { front = h.second.front; back = h.second.back; joined = h.second.joined; first = u.spelled; second = word_last word.Ago h.second.back ago } })
 item_back text (inr (inr (inl h))) = side h.first
   where
     w : IsWritten date_form h.back
@@ -304,9 +307,9 @@ item_back text (inr (inr (inr (inl h)))) = which h.first
 
     which : (Free (Word word.This) h.front ⊎ Free (Word word.Last) h.front) → IsItem text
     which (inl this) =
-        (item.This p.period, (test.This p.period, current p.period (test.This p.period) p.other), record { front = h.front; back = h.back; joined = h.joined; first = this; second = word_last (word.Unit p.period false) h.back p.spelled })
+        (item.This p.period, (test.This p.period, current p.period (test.This p.period) p.other), record { front = h.front; back = h.back; joined = h.joined; first = this; second = word_last (word.Unit p.period Singular) h.back p.spelled })
     which (inr last) =
-        (item.Last p.period, (test.Last p.period, current p.period (test.Last p.period) p.other), record { front = h.front; back = h.back; joined = h.joined; first = last; second = word_last (word.Unit p.period false) h.back p.spelled })
+        (item.Last p.period, (test.Last p.period, current p.period (test.Last p.period) p.other), record { front = h.front; back = h.back; joined = h.joined; first = last; second = word_last (word.Unit p.period Singular) h.back p.spelled })
 item_back text (inr (inr (inr (inr (inl h))))) = (item.Today, (test.Today, refl), word_last word.Today text h)
 item_back text (inr (inr (inr (inr (inr (inl h)))))) = (item.Yesterday, (test.Yesterday, refl), word_last word.Yesterday text h)
 item_back text (inr (inr (inr (inr (inr (inr h)))))) = negated h.first

@@ -2,8 +2,10 @@
 use Rattle.std.proofs.Common.{◌≡◌, ℕ, ◌≤◌, true, false, List, [], ◌∷◌, ◌++◌, length, Option, Some, None, option_map, refl, sym, ap, ◌∙◌, length-append, arith}
 use Rattle.lk_grammar.specs.declared.literals.Token.TheVariants.{Word, Literal}
 use Rattle.lk_grammar.specs.Listed.{further_tokens}
-use Rattle.lk_filter_date.specs.Dates.{DateToken, item_tokens, more_tokens, date_tokens, item_of_literal, item_of_word, item_of, further_item, then_further, further_from, items_of}
+use Rattle.lk_filter_date.specs.Dates.{DateToken, item_tokens, more_tokens, date_tokens}
+use Rattle.lk_filter_date.specs.DateReading.{item_of_literal, item_of_word, item_of, further_item, then_further, further_from, items_of}
 use Rattle.lk_filter_date.specs.declared.words.DateWord.{DateWord}
+use Rattle.lk_filter_date.specs.declared.words.Plurality.TheVariants.{Singular}
 use Rattle.lk_filter_date.specs.declared.words.DateWord.TheVariants as word
 use Rattle.lk_filter_date.specs.declared.items.DateItem.{DateItem}
 use Rattle.lk_filter_date.specs.declared.items.DateItem.TheVariants as item
@@ -28,10 +30,10 @@ item_again item.Today rest h = refl
 item_again item.Yesterday rest h = refl
 item_again (item.This period) rest h = refl
 item_again (item.Last period) rest h = refl
-item_again (item.Recent count period plural) [] h = refl
-item_again (item.Recent count period plural) (Word word.Comma ∷ rest) h = refl
-item_again (item.Recent count period plural) (t ∷ rest) h = absurd h
-item_again (item.Ago count period plural) rest h = refl
+item_again (item.Recent count period plurality) [] h = refl
+item_again (item.Recent count period plurality) (Word word.Comma ∷ rest) h = refl
+item_again (item.Recent count period plurality) (t ∷ rest) h = absurd h
+item_again (item.Ago count period plurality) rest h = refl
 item_again (item.Null true) rest h = refl
 item_again (item.Null false) rest h = refl
 
@@ -64,8 +66,8 @@ item_begun item.Today rest = record { head = _; tail = _; is = refl }
 item_begun item.Yesterday rest = record { head = _; tail = _; is = refl }
 item_begun (item.This period) rest = record { head = _; tail = _; is = refl }
 item_begun (item.Last period) rest = record { head = _; tail = _; is = refl }
-item_begun (item.Recent count period plural) rest = record { head = _; tail = _; is = refl }
-item_begun (item.Ago count period plural) rest = record { head = _; tail = _; is = refl }
+item_begun (item.Recent count period plurality) rest = record { head = _; tail = _; is = refl }
+item_begun (item.Ago count period plurality) rest = record { head = _; tail = _; is = refl }
 item_begun (item.Null true) rest = record { head = _; tail = _; is = refl }
 item_begun (item.Null false) rest = record { head = _; tail = _; is = refl }
 
@@ -95,8 +97,8 @@ spelled_by x = item_tokens x.0 ++ x.1
 
 literal_before : (text : List ℕ) (tokens : List DateToken) → Literal text ∷ tokens ≡ spelled_by (item_of_literal text tokens)
 literal_before text (Word word.To ∷ Literal upto ∷ tokens) = refl
-literal_before text (Word (word.Unit period plural) ∷ Word word.Ago ∷ tokens) = refl
-literal_before text (Word (word.Unit period plural) ∷ tokens) = refl
+literal_before text (Word (word.Unit period plurality) ∷ Word word.Ago ∷ tokens) = refl
+literal_before text (Word (word.Unit period plurality) ∷ tokens) = refl
 literal_before text tokens = refl
 
 word_before : (w : DateWord) (tokens : List DateToken) (x : DateItem × List DateToken) → item_of_word w tokens ≡ Some x → Word w ∷ tokens ≡ spelled_by x
@@ -105,8 +107,8 @@ word_before word.Yesterday tokens x e = ap spelled_by (some_is (item.Yesterday, 
 word_before word.Null tokens x e = ap spelled_by (some_is (item.Null false, tokens) x e)
 word_before word.Before (Literal date ∷ tokens) x e = ap spelled_by (some_is (item.Before date, tokens) x e)
 word_before word.After (Literal date ∷ tokens) x e = ap spelled_by (some_is (item.After date, tokens) x e)
-word_before word.This (Word (word.Unit period false) ∷ tokens) x e = ap spelled_by (some_is (item.This period, tokens) x e)
-word_before word.Last (Word (word.Unit period false) ∷ tokens) x e = ap spelled_by (some_is (item.Last period, tokens) x e)
+word_before word.This (Word (word.Unit period Singular) ∷ tokens) x e = ap spelled_by (some_is (item.This period, tokens) x e)
+word_before word.Last (Word (word.Unit period Singular) ∷ tokens) x e = ap spelled_by (some_is (item.Last period, tokens) x e)
 word_before word.Not (Word word.Null ∷ tokens) x e = ap spelled_by (some_is (item.Null true, tokens) x e)
 word_before w tokens x e = absurd (none_some e)
 

@@ -5,27 +5,31 @@ use Rattle.std.specs.Option.{option_and_then}
 use Rattle.std.proofs.lemmas.Bool.{false≢true, leb-true}
 use Rattle.lk_grammar.specs.Forms.{IsText}
 use Rattle.lk_grammar.specs.Words.{is_word, is_small, is_char, IsFirst, letter_starts, each_alone}
-use Rattle.lk_grammar.specs.Tokens.{tokens_form, AreClear}
-use Rattle.lk_grammar.specs.Literals.{token_form, is_ended, next_starts, is_next_token, IsClearToken, IsLiteralOf}
+use Rattle.lk_grammar.specs.Tokens.{tokens_form, tokens_of, AreClear}
+use Rattle.lk_grammar.specs.Literals.{token_form, first_of, is_ended, next_starts, is_next_token, IsClearToken, IsLiteralOf}
 use Rattle.lk_grammar.specs.Numbers.{begins_no_digit}
 use Rattle.lk_grammar.specs.declared.literals.Token.TheVariants.{Word, Literal}
 use Rattle.lk_grammar.proofs.FormLaws.{both}
+use Rattle.lk_grammar.proofs.LiteralLaws.{tokens_lex}
+use Rattle.lk_grammar.proofs.TokenLaws.{tokens_spelled}
 use Rattle.lk_types.specs.declared.filter.Filter.{Filter}
 use Rattle.lk_types.specs.declared.filter.Period.{Period}
 use Rattle.lk_types.specs.declared.filter.Period.TheVariants.{Day, Week, Month, Quarter, Year}
 use Rattle.lk_grammar.specs.Listed.{further_tokens}
-use Rattle.lk_filter_date.specs.DateTexts.{date_literal, is_of_date}
-use Rattle.lk_filter_date.specs.Dates.{letters_of, DateToken, item_tokens, more_tokens, date_tokens, items_of, date_filter, IsDateFilter}
+use Rattle.lk_filter_date.specs.DateTexts.{date_literal, date_length, is_of_date}
+use Rattle.lk_filter_date.specs.Dates.{letters_of, DateToken, item_tokens, more_tokens, date_tokens, date_filter, IsDateFilter}
+use Rattle.lk_filter_date.specs.DateReading.{items_of}
 use Rattle.lk_filter_date.specs.declared.words.DateWord.{DateWord}
+use Rattle.lk_filter_date.specs.declared.words.Plurality.TheVariants.{Plural, Singular}
 use Rattle.lk_filter_date.specs.declared.words.DateWord.TheVariants as word
 use Rattle.lk_filter_date.specs.declared.items.DateItem.{DateItem}
 use Rattle.lk_filter_date.specs.declared.items.DateItem.TheVariants as item
-use Rattle.lk_filter_date.proofs.DateLiteralLaws.{same, is_false, digit_low, digit_high, literal_head}
+use Rattle.lk_filter_date.proofs.DateLiteralLaws.{date_reader, same, is_false, digit_low, digit_high, literal_head}
 use Rattle.lk_filter_date.proofs.DateReadingLaws.{Ends, further_ends, items_again, items_before}
 use Rattle.lk_grammar.proofs.ReadingLaws.{of_each, none_some, some_is, read_is_spelled}
 
 abbrev pub table : List DateWord
-table = word.Before ∷ word.After ∷ word.Today ∷ word.To ∷ word.Yesterday ∷ word.This ∷ word.Last ∷ word.Ago ∷ word.Null ∷ word.Not ∷ word.Comma ∷ (word.Unit Day true) ∷ (word.Unit Day false) ∷ (word.Unit Week true) ∷ (word.Unit Week false) ∷ (word.Unit Month true) ∷ (word.Unit Month false) ∷ (word.Unit Quarter true) ∷ (word.Unit Quarter false) ∷ (word.Unit Year true) ∷ (word.Unit Year false) ∷ []
+table = word.Before ∷ word.After ∷ word.Today ∷ word.To ∷ word.Yesterday ∷ word.This ∷ word.Last ∷ word.Ago ∷ word.Null ∷ word.Not ∷ word.Comma ∷ (word.Unit Day Plural) ∷ (word.Unit Day Singular) ∷ (word.Unit Week Plural) ∷ (word.Unit Week Singular) ∷ (word.Unit Month Plural) ∷ (word.Unit Month Singular) ∷ (word.Unit Quarter Plural) ∷ (word.Unit Quarter Singular) ∷ (word.Unit Year Plural) ∷ (word.Unit Year Singular) ∷ []
 
 -- ---- which tokens stand beside one another
 
@@ -42,7 +46,7 @@ is_apart_from (Literal m) (Literal n ∷ tokens) = false
 is_apart_from (Literal m) tokens = true
 is_apart_from (Word word.To) (Literal n ∷ tokens) = true
 is_apart_from (Word word.To) tokens = false
-is_apart_from (Word (word.Unit period plural)) tokens = is_unit_end tokens
+is_apart_from (Word (word.Unit period plurality)) tokens = is_unit_end tokens
 is_apart_from (Word w) tokens = true
 
 abbrev are_apart : List DateToken → Bool
@@ -68,8 +72,8 @@ apart_item item.Today rest h ok = ok
 apart_item item.Yesterday rest h ok = ok
 apart_item (item.This period) rest h ok = rw (behind_unit rest h, ok) refl
 apart_item (item.Last period) rest h ok = rw (behind_unit rest h, ok) refl
-apart_item (item.Recent count period plural) rest h ok = rw (behind_unit rest h, ok) refl
-apart_item (item.Ago count period plural) rest h ok = ok
+apart_item (item.Recent count period plurality) rest h ok = rw (behind_unit rest h, ok) refl
+apart_item (item.Ago count period plurality) rest h ok = ok
 apart_item (item.Null true) rest h ok = ok
 apart_item (item.Null false) rest h ok = ok
 
@@ -105,16 +109,16 @@ word_is_word word.Ago = refl
 word_is_word word.Null = refl
 word_is_word word.Not = refl
 word_is_word word.Comma = refl
-word_is_word (word.Unit Day true) = refl
-word_is_word (word.Unit Day false) = refl
-word_is_word (word.Unit Week true) = refl
-word_is_word (word.Unit Week false) = refl
-word_is_word (word.Unit Month true) = refl
-word_is_word (word.Unit Month false) = refl
-word_is_word (word.Unit Quarter true) = refl
-word_is_word (word.Unit Quarter false) = refl
-word_is_word (word.Unit Year true) = refl
-word_is_word (word.Unit Year false) = refl
+word_is_word (word.Unit Day Plural) = refl
+word_is_word (word.Unit Day Singular) = refl
+word_is_word (word.Unit Week Plural) = refl
+word_is_word (word.Unit Week Singular) = refl
+word_is_word (word.Unit Month Plural) = refl
+word_is_word (word.Unit Month Singular) = refl
+word_is_word (word.Unit Quarter Plural) = refl
+word_is_word (word.Unit Quarter Singular) = refl
+word_is_word (word.Unit Year Plural) = refl
+word_is_word (word.Unit Year Singular) = refl
 
 no_digit_begins : (w : DateWord) → begins_no_digit (letters_of w) ≡ true
 no_digit_begins word.Before = refl
@@ -128,16 +132,16 @@ no_digit_begins word.Ago = refl
 no_digit_begins word.Null = refl
 no_digit_begins word.Not = refl
 no_digit_begins word.Comma = refl
-no_digit_begins (word.Unit Day true) = refl
-no_digit_begins (word.Unit Day false) = refl
-no_digit_begins (word.Unit Week true) = refl
-no_digit_begins (word.Unit Week false) = refl
-no_digit_begins (word.Unit Month true) = refl
-no_digit_begins (word.Unit Month false) = refl
-no_digit_begins (word.Unit Quarter true) = refl
-no_digit_begins (word.Unit Quarter false) = refl
-no_digit_begins (word.Unit Year true) = refl
-no_digit_begins (word.Unit Year false) = refl
+no_digit_begins (word.Unit Day Plural) = refl
+no_digit_begins (word.Unit Day Singular) = refl
+no_digit_begins (word.Unit Week Plural) = refl
+no_digit_begins (word.Unit Week Singular) = refl
+no_digit_begins (word.Unit Month Plural) = refl
+no_digit_begins (word.Unit Month Singular) = refl
+no_digit_begins (word.Unit Quarter Plural) = refl
+no_digit_begins (word.Unit Quarter Singular) = refl
+no_digit_begins (word.Unit Year Plural) = refl
+no_digit_begins (word.Unit Year Singular) = refl
 
 next_is : (tokens : List DateToken) → AllByRecursion (IsLiteralOf date_literal) tokens → is_next_token (32 ∷ []) letters_of tokens ≡ true
 next_is [] all = refl
@@ -151,7 +155,7 @@ next_is (Literal (b ∷ text) ∷ tokens) all =
 -- the words that are first whatever comes behind them
 abbrev IsPlainWord : DateWord → Type 0
 IsPlainWord word.To = ⊥
-IsPlainWord (word.Unit period false) = ⊥
+IsPlainWord (word.Unit period Singular) = ⊥
 IsPlainWord w = Unit {0}
 
 first : (w : DateWord) → IsPlainWord w → (rest : List ℕ) → IsFirst letters_of table w rest
@@ -166,30 +170,30 @@ first word.Ago h rest = inr (refl, inr (refl, inr (refl, inr (refl, inr (refl, i
 first word.Null h rest = inr (refl, inr (refl, inr (refl, inr (refl, inr (refl, inr (refl, inr (refl, inr (refl, inl refl))))))))
 first word.Not h rest = inr (refl, inr (refl, inr (refl, inr (refl, inr (refl, inr (refl, inr (refl, inr (refl, inr (refl, inl refl)))))))))
 first word.Comma h rest = inr (refl, inr (refl, inr (refl, inr (refl, inr (refl, inr (refl, inr (refl, inr (refl, inr (refl, inr (refl, inl refl))))))))))
-first (word.Unit Day true) h rest = inr (refl, inr (refl, inr (refl, inr (refl, inr (refl, inr (refl, inr (refl, inr (refl, inr (refl, inr (refl, inr (refl, inl refl)))))))))))
-first (word.Unit Day false) h rest = absurd h
-first (word.Unit Week true) h rest = inr (refl, inr (refl, inr (refl, inr (refl, inr (refl, inr (refl, inr (refl, inr (refl, inr (refl, inr (refl, inr (refl, inr (refl, inr (refl, inl refl)))))))))))))
-first (word.Unit Week false) h rest = absurd h
-first (word.Unit Month true) h rest = inr (refl, inr (refl, inr (refl, inr (refl, inr (refl, inr (refl, inr (refl, inr (refl, inr (refl, inr (refl, inr (refl, inr (refl, inr (refl, inr (refl, inr (refl, inl refl)))))))))))))))
-first (word.Unit Month false) h rest = absurd h
-first (word.Unit Quarter true) h rest = inr (refl, inr (refl, inr (refl, inr (refl, inr (refl, inr (refl, inr (refl, inr (refl, inr (refl, inr (refl, inr (refl, inr (refl, inr (refl, inr (refl, inr (refl, inr (refl, inr (refl, inl refl)))))))))))))))))
-first (word.Unit Quarter false) h rest = absurd h
-first (word.Unit Year true) h rest = inr (refl, inr (refl, inr (refl, inr (refl, inr (refl, inr (refl, inr (refl, inr (refl, inr (refl, inr (refl, inr (refl, inr (refl, inr (refl, inr (refl, inr (refl, inr (refl, inr (refl, inr (refl, inr (refl, inl refl)))))))))))))))))))
-first (word.Unit Year false) h rest = absurd h
+first (word.Unit Day Plural) h rest = inr (refl, inr (refl, inr (refl, inr (refl, inr (refl, inr (refl, inr (refl, inr (refl, inr (refl, inr (refl, inr (refl, inl refl)))))))))))
+first (word.Unit Day Singular) h rest = absurd h
+first (word.Unit Week Plural) h rest = inr (refl, inr (refl, inr (refl, inr (refl, inr (refl, inr (refl, inr (refl, inr (refl, inr (refl, inr (refl, inr (refl, inr (refl, inr (refl, inl refl)))))))))))))
+first (word.Unit Week Singular) h rest = absurd h
+first (word.Unit Month Plural) h rest = inr (refl, inr (refl, inr (refl, inr (refl, inr (refl, inr (refl, inr (refl, inr (refl, inr (refl, inr (refl, inr (refl, inr (refl, inr (refl, inr (refl, inr (refl, inl refl)))))))))))))))
+first (word.Unit Month Singular) h rest = absurd h
+first (word.Unit Quarter Plural) h rest = inr (refl, inr (refl, inr (refl, inr (refl, inr (refl, inr (refl, inr (refl, inr (refl, inr (refl, inr (refl, inr (refl, inr (refl, inr (refl, inr (refl, inr (refl, inr (refl, inr (refl, inl refl)))))))))))))))))
+first (word.Unit Quarter Singular) h rest = absurd h
+first (word.Unit Year Plural) h rest = inr (refl, inr (refl, inr (refl, inr (refl, inr (refl, inr (refl, inr (refl, inr (refl, inr (refl, inr (refl, inr (refl, inr (refl, inr (refl, inr (refl, inr (refl, inr (refl, inr (refl, inr (refl, inr (refl, inl refl)))))))))))))))))))
+first (word.Unit Year Singular) h rest = absurd h
 
 -- `to` before a byte that is no letter d
 first_to : (b : ℕ) → is_char 100 b ≡ false → IsFirst letters_of table word.To (b ∷ [])
 first_to b h = inr (refl, inr (refl, inr (rw h refl, inl refl)))
 
 -- a unit that is not in the plural, before a byte that is no letter s
-first_unit : (period : Period) (b : ℕ) → is_char 115 b ≡ false → IsFirst letters_of table (word.Unit period false) (b ∷ [])
+first_unit : (period : Period) (b : ℕ) → is_char 115 b ≡ false → IsFirst letters_of table (word.Unit period Singular) (b ∷ [])
 first_unit Day b h = inr (refl, inr (refl, inr (refl, inr (refl, inr (refl, inr (refl, inr (refl, inr (refl, inr (refl, inr (refl, inr (refl, inr (rw h refl, inl refl))))))))))))
 first_unit Week b h = inr (refl, inr (refl, inr (refl, inr (refl, inr (refl, inr (refl, inr (refl, inr (refl, inr (refl, inr (refl, inr (refl, inr (refl, inr (refl, inr (rw h refl, inl refl))))))))))))))
 first_unit Month b h = inr (refl, inr (refl, inr (refl, inr (refl, inr (refl, inr (refl, inr (refl, inr (refl, inr (refl, inr (refl, inr (refl, inr (refl, inr (refl, inr (refl, inr (refl, inr (rw h refl, inl refl))))))))))))))))
 first_unit Quarter b h = inr (refl, inr (refl, inr (refl, inr (refl, inr (refl, inr (refl, inr (refl, inr (refl, inr (refl, inr (refl, inr (refl, inr (refl, inr (refl, inr (refl, inr (refl, inr (refl, inr (refl, inr (rw h refl, inl refl))))))))))))))))))
 first_unit Year b h = inr (refl, inr (refl, inr (refl, inr (refl, inr (refl, inr (refl, inr (refl, inr (refl, inr (refl, inr (refl, inr (refl, inr (refl, inr (refl, inr (refl, inr (refl, inr (refl, inr (refl, inr (refl, inr (refl, inr (rw h refl, inl refl))))))))))))))))))))
 
-unit_alone : (period : Period) → IsFirst letters_of table (word.Unit period false) []
+unit_alone : (period : Period) → IsFirst letters_of table (word.Unit period Singular) []
 unit_alone Day = inr (refl, inr (refl, inr (refl, inr (refl, inr (refl, inr (refl, inr (refl, inr (refl, inr (refl, inr (refl, inr (refl, inr (refl, inl refl))))))))))))
 unit_alone Week = inr (refl, inr (refl, inr (refl, inr (refl, inr (refl, inr (refl, inr (refl, inr (refl, inr (refl, inr (refl, inr (refl, inr (refl, inr (refl, inr (refl, inl refl))))))))))))))
 unit_alone Month = inr (refl, inr (refl, inr (refl, inr (refl, inr (refl, inr (refl, inr (refl, inr (refl, inr (refl, inr (refl, inr (refl, inr (refl, inr (refl, inr (refl, inr (refl, inr (refl, inl refl))))))))))))))))
@@ -214,10 +218,10 @@ to_clear (b ∷ text) tokens all =
       first = (first_to b (subst (λ z. is_char 100 z ≡ false) (sym alike) (no_char h.head (digit_low h.head h.first) (digit_high h.head h.first))), (first_to 32 refl, tt));
     }
 
-unit_clear : (period : Period) (tokens : List DateToken) → is_unit_end tokens ≡ true → AllByRecursion (IsLiteralOf date_literal) tokens → IsClearToken (32 ∷ []) letters_of date_literal is_of_date begins_no_digit table (Word (word.Unit period false)) tokens
-unit_clear period tokens ends all = record { is_one = word_is_word (word.Unit period false); is_next = next_is tokens all; no_literal = no_digit_begins (word.Unit period false); first = firsts tokens ends }
+unit_clear : (period : Period) (tokens : List DateToken) → is_unit_end tokens ≡ true → AllByRecursion (IsLiteralOf date_literal) tokens → IsClearToken (32 ∷ []) letters_of date_literal is_of_date begins_no_digit table (Word (word.Unit period Singular)) tokens
+unit_clear period tokens ends all = record { is_one = word_is_word (word.Unit period Singular); is_next = next_is tokens all; no_literal = no_digit_begins (word.Unit period Singular); first = firsts tokens ends }
   where
-    firsts : (tokens : List DateToken) → is_unit_end tokens ≡ true → AllByRecursion (IsFirst letters_of table (word.Unit period false)) (next_starts (32 ∷ []) letters_of tokens)
+    firsts : (tokens : List DateToken) → is_unit_end tokens ≡ true → AllByRecursion (IsFirst letters_of table (word.Unit period Singular)) (next_starts (32 ∷ []) letters_of tokens)
     firsts [] ends = (unit_alone period, (first_unit period 32 refl, tt))
     firsts (Word word.Comma ∷ tokens) ends = (first_unit period 44 refl, (first_unit period 32 refl, tt))
     firsts (Word word.Ago ∷ tokens) ends = (first_unit period 97 refl, (first_unit period 65 refl, (first_unit period 32 refl, tt)))
@@ -235,16 +239,16 @@ word_ends word.Ago = (refl, (refl, (refl, tt)))
 word_ends word.Null = (refl, (refl, (refl, tt)))
 word_ends word.Not = (refl, (refl, (refl, tt)))
 word_ends word.Comma = (refl, (refl, tt))
-word_ends (word.Unit Day true) = (refl, (refl, (refl, tt)))
-word_ends (word.Unit Day false) = (refl, (refl, (refl, tt)))
-word_ends (word.Unit Week true) = (refl, (refl, (refl, tt)))
-word_ends (word.Unit Week false) = (refl, (refl, (refl, tt)))
-word_ends (word.Unit Month true) = (refl, (refl, (refl, tt)))
-word_ends (word.Unit Month false) = (refl, (refl, (refl, tt)))
-word_ends (word.Unit Quarter true) = (refl, (refl, (refl, tt)))
-word_ends (word.Unit Quarter false) = (refl, (refl, (refl, tt)))
-word_ends (word.Unit Year true) = (refl, (refl, (refl, tt)))
-word_ends (word.Unit Year false) = (refl, (refl, (refl, tt)))
+word_ends (word.Unit Day Plural) = (refl, (refl, (refl, tt)))
+word_ends (word.Unit Day Singular) = (refl, (refl, (refl, tt)))
+word_ends (word.Unit Week Plural) = (refl, (refl, (refl, tt)))
+word_ends (word.Unit Week Singular) = (refl, (refl, (refl, tt)))
+word_ends (word.Unit Month Plural) = (refl, (refl, (refl, tt)))
+word_ends (word.Unit Month Singular) = (refl, (refl, (refl, tt)))
+word_ends (word.Unit Quarter Plural) = (refl, (refl, (refl, tt)))
+word_ends (word.Unit Quarter Singular) = (refl, (refl, (refl, tt)))
+word_ends (word.Unit Year Plural) = (refl, (refl, (refl, tt)))
+word_ends (word.Unit Year Singular) = (refl, (refl, (refl, tt)))
 
 clear : (t : DateToken) (tokens : List DateToken) → is_apart_from t tokens ≡ true → IsLiteralOf date_literal t → AllByRecursion (IsLiteralOf date_literal) tokens → IsClearToken (32 ∷ []) letters_of date_literal is_of_date begins_no_digit table t tokens
 clear (Literal n) [] ok one all = record { is_one = one; is_next = refl; ended = (refl, (refl, tt)) }
@@ -253,8 +257,8 @@ clear (Literal n) (Literal m ∷ tokens) ok one all = absurd (false≢true ok)
 clear (Word word.To) [] ok one all = absurd (false≢true ok)
 clear (Word word.To) (Word w ∷ tokens) ok one all = absurd (false≢true ok)
 clear (Word word.To) (Literal n ∷ tokens) ok one all = to_clear n tokens all
-clear (Word (word.Unit period false)) tokens ok one all = unit_clear period tokens ok all
-clear (Word (word.Unit period true)) tokens ok one all = word_clear (word.Unit period true) tt tokens all
+clear (Word (word.Unit period Singular)) tokens ok one all = unit_clear period tokens ok all
+clear (Word (word.Unit period Plural)) tokens ok one all = word_clear (word.Unit period Plural) tt tokens all
 clear (Word word.Before) tokens ok one all = word_clear word.Before tt tokens all
 clear (Word word.After) tokens ok one all = word_clear word.After tt tokens all
 clear (Word word.Today) tokens ok one all = word_clear word.Today tt tokens all
@@ -295,3 +299,13 @@ dates_are_read tokens text every found e f h =
 
 pub no_dates : (text : List ℕ) → ((others : List DateToken) → AreClear (IsClearToken (32 ∷ []) letters_of date_literal is_of_date begins_no_digit table) others → IsText (tokens_form (32 ∷ []) (token_form letters_of) others) text → None ≡ Some others) → (f : Filter) → IsDateFilter f text → None ≡ Some f
 no_dates text every f h = absurd (none_some (every (date_tokens h.0) (items_clear h.0 h.1.literals) h.1.spelled))
+
+-- ---- a text spells one filter
+
+taken_off : (text : List ℕ) (tokens : List DateToken) → AreClear (IsClearToken (32 ∷ []) letters_of date_literal is_of_date begins_no_digit table) tokens → IsText (tokens_form (32 ∷ []) (token_form letters_of) tokens) text → tokens_of (32 ∷ []) (first_of letters_of date_length table) text ≡ Some tokens
+taken_off text tokens clear spelled = tokens_spelled (tokens_lex (32 ∷ []) letters_of date_reader table) tokens text text clear spelled (omega arith)
+
+pub one_date_filter : (text : List ℕ) (f g : Filter) → IsDateFilter f text → IsDateFilter g text → f ≡ g
+one_date_filter text f g h k =
+    let off = taken_off text (date_tokens h.0) (items_clear h.0 h.1.literals) h.1.spelled in
+    some_is f g (dates_are_read (date_tokens h.0) text (λ others clear spelled. sym off ∙ taken_off text others clear spelled) (Some f) (sym (ap (option_and_then date_filter) (items_again h.0) ∙ h.2)) g k)

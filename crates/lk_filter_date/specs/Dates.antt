@@ -2,8 +2,7 @@
 use Rattle.std.specs.Prelude.{◌≡◌, ℕ, Bool, true, false, List, [], ◌∷◌, ◌++◌, Option, Some, None, option_map, codes, if◌then◌else◌}
 use Rattle.std.specs.Option.{option_and_then}
 use Rattle.std.specs.List.{list_any, AllByRecursion}
-use Rattle.lk_grammar.specs.Forms.{Form, seq, either, optional, IsText}
-use Rattle.lk_grammar.specs.Words.{word, free}
+use Rattle.lk_grammar.specs.Forms.{IsText}
 use Rattle.lk_grammar.specs.Tokens.{tokens_form}
 use Rattle.lk_grammar.specs.Literals.{token_form, IsLiteralOf}
 use Rattle.lk_grammar.specs.declared.literals.Token.{Token}
@@ -13,25 +12,27 @@ use Rattle.lk_types.specs.declared.filter.Period.{Period}
 use Rattle.lk_types.specs.declared.filter.Period.TheVariants.{Day, Week, Month, Quarter, Year}
 use Rattle.lk_types.specs.declared.filter.Test.{Test}
 use Rattle.lk_types.specs.declared.filter.Test.TheVariants as test
-use Rattle.lk_grammar.specs.Listed.{further_tokens, listed, with_own}
-use Rattle.lk_filter_date.specs.DateTexts.{days_of, count_of, date_literal, date_form, count_form}
+use Rattle.lk_grammar.specs.Listed.{further_tokens, with_own}
+use Rattle.lk_filter_date.specs.DateTexts.{days_of, count_of, date_literal}
 use Rattle.lk_filter_date.specs.declared.words.DateWord.{DateWord}
+use Rattle.lk_filter_date.specs.declared.words.Plurality.{Plurality}
+use Rattle.lk_filter_date.specs.declared.words.Plurality.TheVariants.{Plural, Singular}
 use Rattle.lk_filter_date.specs.declared.words.DateWord.TheVariants as word
 use Rattle.lk_filter_date.specs.declared.items.DateItem.{DateItem}
 use Rattle.lk_filter_date.specs.declared.items.DateItem.TheVariants as item
 
 -- a unit, in the plural or not
-abbrev pub unit_letters : Period → Bool → List ℕ
-unit_letters Day true = codes "days"
-unit_letters Day false = codes "day"
-unit_letters Week true = codes "weeks"
-unit_letters Week false = codes "week"
-unit_letters Month true = codes "months"
-unit_letters Month false = codes "month"
-unit_letters Quarter true = codes "quarters"
-unit_letters Quarter false = codes "quarter"
-unit_letters Year true = codes "years"
-unit_letters Year false = codes "year"
+abbrev pub unit_letters : Period → Plurality → List ℕ
+unit_letters Day Plural = codes "days"
+unit_letters Day Singular = codes "day"
+unit_letters Week Plural = codes "weeks"
+unit_letters Week Singular = codes "week"
+unit_letters Month Plural = codes "months"
+unit_letters Month Singular = codes "month"
+unit_letters Quarter Plural = codes "quarters"
+unit_letters Quarter Singular = codes "quarter"
+unit_letters Year Plural = codes "years"
+unit_letters Year Singular = codes "year"
 
 abbrev pub letters_of : DateWord → List ℕ
 letters_of word.Before = codes "before"
@@ -45,7 +46,7 @@ letters_of word.Ago = codes "ago"
 letters_of word.Null = codes "null"
 letters_of word.Not = codes "not"
 letters_of word.Comma = codes ","
-letters_of (word.Unit period plural) = unit_letters period plural
+letters_of (word.Unit period plurality) = unit_letters period plurality
 
 abbrev pub DateToken : Type 0
 DateToken = Token DateWord
@@ -59,10 +60,10 @@ item_tokens (item.After date) = Word word.After ∷ Literal date ∷ []
 item_tokens (item.FromTo from upto) = Literal from ∷ Word word.To ∷ Literal upto ∷ []
 item_tokens item.Today = Word word.Today ∷ []
 item_tokens item.Yesterday = Word word.Yesterday ∷ []
-item_tokens (item.This period) = Word word.This ∷ Word (word.Unit period false) ∷ []
-item_tokens (item.Last period) = Word word.Last ∷ Word (word.Unit period false) ∷ []
-item_tokens (item.Recent count period plural) = Literal count ∷ Word (word.Unit period plural) ∷ []
-item_tokens (item.Ago count period plural) = Literal count ∷ Word (word.Unit period plural) ∷ Word word.Ago ∷ []
+item_tokens (item.This period) = Word word.This ∷ Word (word.Unit period Singular) ∷ []
+item_tokens (item.Last period) = Word word.Last ∷ Word (word.Unit period Singular) ∷ []
+item_tokens (item.Recent count period plurality) = Literal count ∷ Word (word.Unit period plurality) ∷ []
+item_tokens (item.Ago count period plurality) = Literal count ∷ Word (word.Unit period plurality) ∷ Word word.Ago ∷ []
 item_tokens (item.Null false) = Word word.Null ∷ []
 item_tokens (item.Null true) = Word word.Not ∷ Word word.Null ∷ []
 
@@ -97,8 +98,8 @@ item_test item.Today = Some test.Today
 item_test item.Yesterday = Some test.Yesterday
 item_test (item.This period) = if is_day period then None else Some (test.This period)
 item_test (item.Last period) = if is_day period then None else Some (test.Last period)
-item_test (item.Recent count period plural) = option_map (λ n. test.Recent n period) (count_of count)
-item_test (item.Ago count period plural) = option_map (λ n. test.Ago n period) (count_of count)
+item_test (item.Recent count period plurality) = option_map (λ n. test.Recent n period) (count_of count)
+item_test (item.Ago count period plurality) = option_map (λ n. test.Ago n period) (count_of count)
 item_test (item.Null negated) = Some test.Null
 
 -- `NOT` stands before it
@@ -137,108 +138,6 @@ date_filter items = option_map (λ include. record { include = include; exclude 
 abbrev pub IsDateFilter : Filter → List ℕ → Type 0
 IsDateFilter f text = (items : List DateItem) × IsDateText items text × (date_filter items ≡ Some f)
 
--- ---- how items are read from the tokens
-
--- the item that a date or a count begins, and what is behind it
-abbrev pub item_of_literal : List ℕ → List DateToken → DateItem × List DateToken
-item_of_literal date (Word word.To ∷ Literal upto ∷ tokens) = (item.FromTo date upto, tokens)
-item_of_literal count (Word (word.Unit period plural) ∷ Word word.Ago ∷ tokens) = (item.Ago count period plural, tokens)
-item_of_literal count (Word (word.Unit period plural) ∷ tokens) = (item.Recent count period plural, tokens)
-item_of_literal date tokens = (item.In date, tokens)
-
--- the item that a word begins
-abbrev pub item_of_word : DateWord → List DateToken → Option (DateItem × List DateToken)
-item_of_word word.Today tokens = Some (item.Today, tokens)
-item_of_word word.Yesterday tokens = Some (item.Yesterday, tokens)
-item_of_word word.Null tokens = Some (item.Null false, tokens)
-item_of_word word.Before (Literal date ∷ tokens) = Some (item.Before date, tokens)
-item_of_word word.After (Literal date ∷ tokens) = Some (item.After date, tokens)
-item_of_word word.This (Word (word.Unit period false) ∷ tokens) = Some (item.This period, tokens)
-item_of_word word.Last (Word (word.Unit period false) ∷ tokens) = Some (item.Last period, tokens)
-item_of_word word.Not (Word word.Null ∷ tokens) = Some (item.Null true, tokens)
-item_of_word w tokens = None
-
--- the item that the tokens begin with
-abbrev pub item_of : List DateToken → Option (DateItem × List DateToken)
-item_of [] = None
-item_of (Literal text ∷ tokens) = Some (item_of_literal text tokens)
-item_of (Word w ∷ tokens) = item_of_word w tokens
-
--- an item with a comma before it
-abbrev pub further_item : List DateToken → Option (DateItem × List DateToken)
-further_item (Word word.Comma ∷ tokens) = item_of tokens
-further_item tokens = None
-
--- the further item, and those behind it
-abbrev pub then_further : Option (DateItem × List DateToken) → (List DateToken → Option (List DateItem)) → Option (List DateItem)
-then_further None more = None
-then_further (Some x) more = option_map (λ items. x.0 ∷ items) (more x.1)
-
--- the further items that the tokens are, with fuel for each
-abbrev pub further_from : List DateToken → List DateToken → Option (List DateItem)
-further_from [] [] = Some []
-further_from [] (t ∷ tokens) = None
-further_from (f ∷ fuel) [] = Some []
-further_from (f ∷ fuel) (t ∷ tokens) = then_further (further_item (t ∷ tokens)) (further_from fuel)
-
--- the items that the tokens are
-abbrev pub items_of : List DateToken → Option (List DateItem)
-items_of [] = Some []
-items_of (t ∷ tokens) = then_further (item_of (t ∷ tokens)) (further_from (t ∷ tokens))
-
--- ---- the grammar as a form
-
 -- the text is a filter of dates
 abbrev pub IsDates : List ℕ → Type 0
 IsDates text = (f : Filter) × IsDateFilter f text
-
--- a word in any case with free spaces before it
-abbrev pub any_word : List ℕ → Form
-any_word small = word (32 ∷ []) small
-
-abbrev pub written_date : Form
-written_date = free (32 ∷ []) date_form
-
-abbrev pub written_count : Form
-written_count = free (32 ∷ []) count_form
-
--- a unit in the plural or not
-abbrev pub unit_form : Period → Form
-unit_form period = either (any_word (unit_letters period true)) (any_word (unit_letters period false))
-
-abbrev pub units_form : Form
-units_form = either (unit_form Day) (either (unit_form Week) (either (unit_form Month) (either (unit_form Quarter) (unit_form Year))))
-
--- a unit of which there is a current one
-abbrev pub period_form : Form
-period_form =
-    either (any_word (unit_letters Week false))
-    (either (any_word (unit_letters Month false)) (either (any_word (unit_letters Quarter false)) (any_word (unit_letters Year false))))
-
--- a date, which `to` and a second one may follow
-abbrev pub dated_form : Form
-dated_form = seq written_date (optional (seq (any_word (codes "to")) written_date))
-
--- a count and its unit, which `ago` may follow
-abbrev pub counted_form : Form
-counted_form = seq written_count (seq units_form (optional (any_word (codes "ago"))))
-
-abbrev pub beside_form : Form
-beside_form = seq (either (any_word (codes "before")) (any_word (codes "after"))) written_date
-
-abbrev pub current_form : Form
-current_form = seq (either (any_word (codes "this")) (any_word (codes "last"))) period_form
-
-abbrev pub null_form : Form
-null_form = seq (optional (any_word (codes "not"))) (any_word (codes "null"))
-
-abbrev pub item_form : Form
-item_form =
-    either dated_form
-    (either counted_form (either beside_form (either current_form (either (any_word (codes "today")) (either (any_word (codes "yesterday")) null_form)))))
-
-abbrev pub further_form : Form
-further_form = seq (any_word (codes ",")) item_form
-
-unfoldable pub dates_form : Form
-dates_form = listed (32 ∷ []) item_form further_form

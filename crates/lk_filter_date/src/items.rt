@@ -1,8 +1,9 @@
+use crate::words::Plurality;
 use lk_types::Period;
 use lk_val::Bytes;
 
-/// An item of a filter of dates, its dates and its count as they are written. A count is followed by its unit, and
-/// whether that is in the plural; `Null` is true with `NOT` before it.
+/// An item of a filter of dates, its dates and its count as they are written. A count is followed by its unit;
+/// `Null` is true with `NOT` before it.
 #[derive(Debug, Drop)]
 pub(crate) enum DateItem {
     In(Bytes),
@@ -13,7 +14,7 @@ pub(crate) enum DateItem {
     Yesterday,
     This(Period),
     Last(Period),
-    Recent(Bytes, Period, bool),
-    Ago(Bytes, Period, bool),
+    Recent(Bytes, Period, Plurality),
+    Ago(Bytes, Period, Plurality),
     Null(bool),
 }

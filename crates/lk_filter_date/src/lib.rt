@@ -4,14 +4,11 @@
 mod forms;
 mod items;
 mod literal;
+mod meaning;
 mod place;
 mod reading;
-mod tests_of;
 mod words;
 mod written;
 
 pub use place::judge_dates;
 pub use reading::read_dates;
-
-#[cfg(test)]
-mod tests;

@@ -2,10 +2,11 @@ ghost use Rattle.std.specs.Prelude.{◌≡◌, IfOk};
 ghost use Rattle.lk_grammar.specs.Forms.{IsText};
 ghost use Rattle.lk_grammar.specs.Places.{Judges};
 ghost use Rattle.lk_types.specs.declared.filter.Period.TheVariants.{Day, Week, Month, Quarter, Year};
-ghost use Rattle.lk_filter_date.specs.Dates.{IsDates, written_date, written_count, unit_form, unit_letters, units_form, period_form, dated_form, counted_form, beside_form, current_form, null_form, item_form, further_form, dates_form};
+ghost use Rattle.lk_filter_date.specs.Dates.{IsDates, unit_letters};
+ghost use Rattle.lk_filter_date.specs.DateReading.{written_date, written_count, unit_form, units_form, period_form, dated_form, counted_form, beside_form, current_form, null_form, item_form, further_form, dates_form};
 
 use crate::forms::{count_form, date_form};
-use crate::words::unit_letters;
+use crate::words::{Plurality, unit_letters};
 use lk_grammar::{Form, judge, listed};
 use lk_types::Period;
 use lk_val::NoMemory;
@@ -18,14 +19,14 @@ pub fn judge_dates(alloc: Global, text: &[u8]) -> Result<Option<usize>, NoMemory
     judge_dates_form(alloc, text)
 }
 
-#[tactic(auto, unfolding(crate::specs::Dates::dates_form), using(crate::proofs::DateFormLaws::date_form_lives))]
+#[tactic(auto, unfolding(crate::specs::DateReading::dates_form), using(crate::proofs::DateFormLaws::date_form_lives))]
 fn judge_dates_form(alloc: Global, text: &[u8]) -> Result<Option<usize>, NoMemory>
     ensures { IfOk result (Judges (IsText dates_form) text.now) }
 {
     judge(alloc, &dates_form(alloc)?, text)
 }
 
-#[tactic(auto, unfolding(crate::specs::Dates::dates_form))]
+#[tactic(auto, unfolding(crate::specs::DateReading::dates_form))]
 fn dates_form(alloc: Global) -> Result<Form, NoMemory>
     ensures { IfOk result (λ form. form ≡ dates_form) }
 {
@@ -121,11 +122,11 @@ fn units_form(alloc: Global) -> Result<Form, NoMemory>
 fn unit_form(alloc: Global, period: Period) -> Result<Form, NoMemory>
     ensures { IfOk result (λ form. form ≡ unit_form period) }
 {
-    let plural = Form::word(alloc, b" ", unit_letters(period, true))?;
+    let plural = Form::word(alloc, b" ", unit_letters(period, Plurality::Plural))?;
     Form::either(
         alloc,
         plural,
-        Form::word(alloc, b" ", unit_letters(period, false))?,
+        Form::word(alloc, b" ", unit_letters(period, Plurality::Singular))?,
     )
 }
 

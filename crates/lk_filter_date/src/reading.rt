@@ -1,12 +1,13 @@
 ghost use Rattle.std.specs.Prelude.{◌≡◌, ◌∷◌, Some, IfOk, IfSome, option_map};
 ghost use Rattle.std.specs.Option.{option_and_then};
-ghost use Rattle.lk_filter_date.specs.Dates.{IsDateFilter, date_filter, item_of_literal, item_of_word, item_of, further_item, further_from, items_of};
+ghost use Rattle.lk_filter_date.specs.Dates.{IsDateFilter, date_filter};
+ghost use Rattle.lk_filter_date.specs.DateReading.{item_of_literal, item_of_word, item_of, further_item, further_from, items_of};
 ghost use Rattle.lk_types.specs.declared.filter.Filter.{Filter};
 
 use crate::items::DateItem;
 use crate::literal::DateLiterals;
-use crate::tests_of::date_filter;
-use crate::words::{DATE_WORDS, DateWord};
+use crate::meaning::date_filter;
+use crate::words::{DATE_WORDS, DateWord, Plurality};
 use lk_grammar::{Token, read_words_and_literals};
 use lk_types::Filter;
 use lk_val::{Bytes, Items, NoMemory};
@@ -117,12 +118,20 @@ fn item_of_word<'a>(
         (DateWord::After, [Token::Literal(date), rest @ ..]) => {
             Ok(Some((DateItem::After(date.copy(alloc)?), rest)))
         }
-        (DateWord::This, [Token::Word(DateWord::Unit(period, false)), rest @ ..]) => {
-            Ok(Some((DateItem::This(*period), rest)))
-        }
-        (DateWord::Last, [Token::Word(DateWord::Unit(period, false)), rest @ ..]) => {
-            Ok(Some((DateItem::Last(*period), rest)))
-        }
+        (
+            DateWord::This,
+            [
+                Token::Word(DateWord::Unit(period, Plurality::Singular)),
+                rest @ ..,
+            ],
+        ) => { Ok(Some((DateItem::This(*period), rest))) }
+        (
+            DateWord::Last,
+            [
+                Token::Word(DateWord::Unit(period, Plurality::Singular)),
+                rest @ ..,
+            ],
+        ) => { Ok(Some((DateItem::Last(*period), rest))) }
         (DateWord::Not, [Token::Word(DateWord::Null), rest @ ..]) => {
             Ok(Some((DateItem::Null(true), rest)))
         }
@@ -143,12 +152,12 @@ fn item_of_literal<'a>(
             Ok((DateItem::FromTo(text, upto.copy(alloc)?), rest))
         }
         [
-            Token::Word(DateWord::Unit(period, plural)),
+            Token::Word(DateWord::Unit(period, plurality)),
             Token::Word(DateWord::Ago),
             rest @ ..,
-        ] => { Ok((DateItem::Ago(text, *period, *plural), rest)) }
-        [Token::Word(DateWord::Unit(period, plural)), rest @ ..] => {
-            Ok((DateItem::Recent(text, *period, *plural), rest))
+        ] => { Ok((DateItem::Ago(text, *period, *plurality), rest)) }
+        [Token::Word(DateWord::Unit(period, plurality)), rest @ ..] => {
+            Ok((DateItem::Recent(text, *period, *plurality), rest))
         }
         rest => Ok((DateItem::In(text), rest)),
     }

@@ -4,7 +4,14 @@ ghost use Rattle.lk_filter_date.specs.Dates.{unit_letters};
 use lk_grammar::Word;
 use lk_types::Period;
 
-/// The words of filters of dates. A unit is true where it is in the plural.
+/// Whether a unit is written in the plural.
+#[derive(Clone, Copy, Debug)]
+pub(crate) enum Plurality {
+    Plural,
+    Singular,
+}
+
+/// The words of filters of dates.
 #[derive(Clone, Copy, Debug)]
 pub(crate) enum DateWord {
     Before,
@@ -18,7 +25,7 @@ pub(crate) enum DateWord {
     Null,
     Not,
     Comma,
-    Unit(Period, bool),
+    Unit(Period, Plurality),
 }
 
 /// The words, each before those that begin it.
@@ -34,16 +41,16 @@ pub(crate) const DATE_WORDS: [DateWord; 21] = [
     DateWord::Null,
     DateWord::Not,
     DateWord::Comma,
-    DateWord::Unit(Period::Day, true),
-    DateWord::Unit(Period::Day, false),
-    DateWord::Unit(Period::Week, true),
-    DateWord::Unit(Period::Week, false),
-    DateWord::Unit(Period::Month, true),
-    DateWord::Unit(Period::Month, false),
-    DateWord::Unit(Period::Quarter, true),
-    DateWord::Unit(Period::Quarter, false),
-    DateWord::Unit(Period::Year, true),
-    DateWord::Unit(Period::Year, false),
+    DateWord::Unit(Period::Day, Plurality::Plural),
+    DateWord::Unit(Period::Day, Plurality::Singular),
+    DateWord::Unit(Period::Week, Plurality::Plural),
+    DateWord::Unit(Period::Week, Plurality::Singular),
+    DateWord::Unit(Period::Month, Plurality::Plural),
+    DateWord::Unit(Period::Month, Plurality::Singular),
+    DateWord::Unit(Period::Quarter, Plurality::Plural),
+    DateWord::Unit(Period::Quarter, Plurality::Singular),
+    DateWord::Unit(Period::Year, Plurality::Plural),
+    DateWord::Unit(Period::Year, Plurality::Singular),
 ];
 
 impl Word for DateWord {
@@ -64,25 +71,25 @@ impl Word for DateWord {
             DateWord::Null => b"null",
             DateWord::Not => b"not",
             DateWord::Comma => b",",
-            DateWord::Unit(period, plural) => unit_letters(*period, *plural),
+            DateWord::Unit(period, plurality) => unit_letters(*period, *plurality),
         }
     }
 }
 
 /// The letters of a unit, in the plural or not.
-pub(crate) fn unit_letters(period: Period, plural: bool) -> &'static [u8]
-    ensures { result.now ≡ unit_letters period plural }
+pub(crate) fn unit_letters(period: Period, plurality: Plurality) -> &'static [u8]
+    ensures { result.now ≡ unit_letters period plurality }
 {
-    match (period, plural) {
-        (Period::Day, true) => b"days",
-        (Period::Day, false) => b"day",
-        (Period::Week, true) => b"weeks",
-        (Period::Week, false) => b"week",
-        (Period::Month, true) => b"months",
-        (Period::Month, false) => b"month",
-        (Period::Quarter, true) => b"quarters",
-        (Period::Quarter, false) => b"quarter",
-        (Period::Year, true) => b"years",
-        (Period::Year, false) => b"year",
+    match (period, plurality) {
+        (Period::Day, Plurality::Plural) => b"days",
+        (Period::Day, Plurality::Singular) => b"day",
+        (Period::Week, Plurality::Plural) => b"weeks",
+        (Period::Week, Plurality::Singular) => b"week",
+        (Period::Month, Plurality::Plural) => b"months",
+        (Period::Month, Plurality::Singular) => b"month",
+        (Period::Quarter, Plurality::Plural) => b"quarters",
+        (Period::Quarter, Plurality::Singular) => b"quarter",
+        (Period::Year, Plurality::Plural) => b"years",
+        (Period::Year, Plurality::Singular) => b"year",
     }
 }

@@ -1,5 +1,5 @@
 -- Filters of numbers: the texts of the form are those that spell items.
-use Rattle.std.proofs.Common.{◌≡◌, ◌⊎◌, inl, inr, ℕ, Bool, true, false, List, [], ◌∷◌, ◌++◌, Option, Some, None, refl, sym, ap, subst, ◌∙◌, append-nil}
+use Rattle.std.proofs.Common.{◌⊎◌, inl, inr, ℕ, true, false, List, [], ◌∷◌, ◌++◌, Option, Some, None, refl, sym, ap, subst, ◌∙◌, append-nil}
 use Rattle.std.specs.List.{concat, AllByRecursion}
 use Rattle.lk_grammar.specs.Forms.{Form, IsText, IsJoined, seq, either, many, optional}
 use Rattle.lk_grammar.specs.Places.{Judges}
@@ -10,7 +10,8 @@ use Rattle.lk_grammar.specs.declared.literals.Token.TheVariants.{Word, Literal}
 use Rattle.lk_grammar.proofs.LiteralLaws.{exact_text, text_exact}
 use Rattle.lk_grammar.proofs.PlaceLaws.{same_judgement}
 use Rattle.lk_grammar.specs.Listed.{run_form, further_tokens, listed}
-use Rattle.lk_filter_number.specs.Numbers.{letters_of, NumberToken, order_word, open_word, close_word, end_token, and_tokens, range_tokens, item_tokens, between_word, more_tokens, IsNumberText, IsNumbers, any_word, written_number, order_form, compared_form, end_form, interval_form, range_form, item_form, further_form, number_form}
+use Rattle.lk_filter_number.specs.Numbers.{letters_of, NumberToken, order_word, open_word, close_word, end_token, and_tokens, range_tokens, item_tokens, between_word, more_tokens, IsNumberText, IsNumbers}
+use Rattle.lk_filter_number.specs.NumberReading.{any_word, written_number, order_form, compared_form, end_form, interval_form, range_form, item_form, further_form, number_form}
 use Rattle.lk_filter_number.specs.declared.number.words.NumberWord.{NumberWord}
 use Rattle.lk_filter_number.specs.declared.number.words.NumberWord.TheVariants as word
 use Rattle.lk_filter_number.specs.declared.number.items.WrittenEnd.{WrittenEnd}
@@ -18,6 +19,11 @@ use Rattle.lk_filter_number.specs.declared.number.items.WrittenEnd.TheVariants a
 use Rattle.lk_filter_number.specs.declared.number.items.Compared.{Compared}
 use Rattle.lk_filter_number.specs.declared.number.items.Order.{Order}
 use Rattle.lk_filter_number.specs.declared.number.items.Order.TheVariants as order
+use Rattle.lk_filter_number.specs.declared.number.items.Bracket.{Bracket}
+use Rattle.lk_filter_number.specs.declared.number.items.Bracket.TheVariants.{Square, Round}
+use Rattle.lk_filter_number.specs.declared.number.items.UnlikeSign.TheVariants.{Angles, Exclamation}
+use Rattle.lk_filter_number.specs.declared.number.items.Separator.{Separator}
+use Rattle.lk_filter_number.specs.declared.number.items.Separator.TheVariants as separator
 use Rattle.lk_filter_number.specs.declared.number.items.NumberRange.{NumberRange}
 use Rattle.lk_filter_number.specs.declared.number.items.NumberRange.TheVariants.{Is, From, UpTo, Between, Compare, Interval}
 use Rattle.lk_filter_number.specs.declared.number.items.NumberItem.{NumberItem}
@@ -150,19 +156,24 @@ end_back text (inl h) = let w = number_back text h in record { e = end.Number w.
 end_back text (inr (inl h)) = record { e = end.Inf; fine = tt; spelled = h }
 end_back text (inr (inr h)) = record { e = end.MinusInf; fine = tt; spelled = h }
 
+-- the words of brackets
+open_there : (b : Bracket) (text : List ℕ) → Free (Word (open_word b)) text → (Free (Word word.OpenSquare) text) ⊎ (Free (Word word.OpenRound) text)
+open_there Square text h = inl h
+open_there Round text h = inr h
+
+close_there : (b : Bracket) (text : List ℕ) → Free (Word (close_word b)) text → (Free (Word word.CloseSquare) text) ⊎ (Free (Word word.CloseRound) text)
+close_there Square text h = inl h
+close_there Round text h = inr h
+
 -- one of two words
-two_there : (w v : NumberWord) (choose : Bool → NumberWord) → choose true ≡ w → choose false ≡ v → (b : Bool) (text : List ℕ) → Free (Word (choose b)) text → (Free (Word w) text) ⊎ (Free (Word v) text)
-two_there w v choose p q true text h = inl (subst (λ z. Free (Word z) text) p h)
-two_there w v choose p q false text h = inr (subst (λ z. Free (Word z) text) q h)
+two_back : {A : Type 0} (word_of : A → NumberWord) (a b : A) (text : List ℕ) → (Free (Word (word_of a)) text) ⊎ (Free (Word (word_of b)) text) → (x : A) × Free (Word (word_of x)) text
+two_back word_of a b text (inl h) = (a, h)
+two_back word_of a b text (inr h) = (b, h)
 
-two_back : (w v : NumberWord) (choose : Bool → NumberWord) → choose true ≡ w → choose false ≡ v → (text : List ℕ) → (Free (Word w) text) ⊎ (Free (Word v) text) → (b : Bool) × Free (Word (choose b)) text
-two_back w v choose p q text (inl h) = (true, subst (λ z. Free (Word z) text) (sym p) h)
-two_back w v choose p q text (inr h) = (false, subst (λ z. Free (Word z) text) (sym q) h)
-
-interval_there : (square : Bool) (low high : WrittenEnd) (close : Bool) → Fine (range_tokens (Interval square low high close)) → (text : List ℕ) → Run (range_tokens (Interval square low high close)) text → IsText interval_form text
-interval_there square low high close fine text h =
-    both (two_there word.OpenSquare word.OpenRound open_word refl refl square)
-    (λ t. both (end_there low fine.1.0) (λ t. both (λ t k. k) (λ t. both (end_there high fine.1.1.1.0) (λ t r. two_there word.CloseSquare word.CloseRound close_word refl refl close t (only (32 ∷ []) (token_form letters_of) (Word (close_word close)) t r))))) h
+interval_there : (bracket : Bracket) (low high : WrittenEnd) (close : Bracket) → Fine (range_tokens (Interval bracket low high close)) → (text : List ℕ) → Run (range_tokens (Interval bracket low high close)) text → IsText interval_form text
+interval_there bracket low high close fine text h =
+    both (open_there bracket)
+    (λ t. both (end_there low fine.1.0) (λ t. both (λ t k. k) (λ t. both (end_there high fine.1.1.1.0) (λ t r. close_there close t (only (32 ∷ []) (token_form letters_of) (Word (close_word close)) t r))))) h
 
 -- a range that is spelled
 record IsRange (text : List ℕ) : Type 0 where
@@ -175,18 +186,18 @@ interval_back text h =
     let a = h.second in
     let b = a.second in
     let c = b.second in
-    let square = two_back word.OpenSquare word.OpenRound open_word refl refl h.front h.first in
+    let bracket = two_back open_word Square Round h.front h.first in
     let low = end_back a.front a.first in
     let high = end_back c.front c.first in
-    let close = two_back word.CloseSquare word.CloseRound close_word refl refl c.back c.second in
+    let close = two_back close_word Square Round c.back c.second in
     record {
-      r = Interval square.0 low.e high.e close.0;
+      r = Interval bracket.0 low.e high.e close.0;
       fine = (tt, (low.fine, (tt, (high.fine, (tt, tt)))));
       spelled = record {
         front = h.front;
         back = h.back;
         joined = h.joined;
-        first = square.1;
+        first = bracket.1;
         second =
             record {
               front = a.front;
@@ -217,7 +228,7 @@ range_there (Between m n) fine text h =
 range_there (Compare c more) fine text h =
     let p = run_parted (32 ∷ []) (token_form letters_of) (Word (order_word c.comparison) ∷ Literal c.number ∷ []) (and_tokens more) text h in
     inr (inr (inl (record { front = p.front; back = p.back; joined = p.joined; first = compared_there c fine.1.0 p.front p.first; second = ands_there more fine.1.1 p.back p.second })))
-range_there (Interval square low high close) fine text h = inr (inr (inr (interval_there square low high close fine text h)))
+range_there (Interval bracket low high close) fine text h = inr (inr (inr (interval_there bracket low high close fine text h)))
 
 range_back : (text : List ℕ) → IsText range_form text → IsRange text
 range_back text (inl h) = from_back h.second
@@ -258,8 +269,8 @@ item_there (Range true r) text fine h = inl (both (λ t n. inl n) (λ t p. inl (
 item_there (Range false r) text fine h = inl (plain text (inl (range_there r fine text h)))
 item_there (Null true) text fine h = inl (both (λ t n. inl n) (λ t p. inr (only (32 ∷ []) (token_form letters_of) (Word word.Null) t p)) h)
 item_there (Null false) text fine h = inl (plain text (inr (only (32 ∷ []) (token_form letters_of) (Word word.Null) text h)))
-item_there (Unlike true n) text fine h = inr (both (λ t w. inr w) (λ t p. number_there n fine.1.0 t (only (32 ∷ []) (token_form letters_of) (Literal n) t p)) h)
-item_there (Unlike false n) text fine h = inr (both (λ t w. inl w) (λ t p. number_there n fine.1.0 t (only (32 ∷ []) (token_form letters_of) (Literal n) t p)) h)
+item_there (Unlike Exclamation n) text fine h = inr (both (λ t w. inr w) (λ t p. number_there n fine.1.0 t (only (32 ∷ []) (token_form letters_of) (Literal n) t p)) h)
+item_there (Unlike Angles n) text fine h = inr (both (λ t w. inl w) (λ t p. number_there n fine.1.0 t (only (32 ∷ []) (token_form letters_of) (Literal n) t p)) h)
 
 abbrev IsItem : List ℕ → Type 0
 IsItem text = (x : NumberItem) × Fine (item_tokens x) × Run (item_tokens x) text
@@ -284,21 +295,21 @@ item_back text (inr h) = differs h.first
     w = number_back h.back h.second
 
     differs : (IsText (any_word (60 ∷ 62 ∷ [])) h.front ⊎ IsText (any_word (33 ∷ 61 ∷ [])) h.front) → IsItem text
-    differs (inl unlike) = (Unlike false w.n, (tt, (w.fine, tt)), record { front = h.front; back = h.back; joined = h.joined; first = unlike; second = alone (32 ∷ []) (token_form letters_of) (Literal w.n) h.back w.spelled })
-    differs (inr unequal) = (Unlike true w.n, (tt, (w.fine, tt)), record { front = h.front; back = h.back; joined = h.joined; first = unequal; second = alone (32 ∷ []) (token_form letters_of) (Literal w.n) h.back w.spelled })
+    differs (inl unlike) = (Unlike Angles w.n, (tt, (w.fine, tt)), record { front = h.front; back = h.back; joined = h.joined; first = unlike; second = alone (32 ∷ []) (token_form letters_of) (Literal w.n) h.back w.spelled })
+    differs (inr unequal) = (Unlike Exclamation w.n, (tt, (w.fine, tt)), record { front = h.front; back = h.back; joined = h.joined; first = unequal; second = alone (32 ∷ []) (token_form letters_of) (Literal w.n) h.back w.spelled })
 
-swapped : {A B : Type 0} → A ⊎ B → B ⊎ A
-swapped (inl a) = inr a
-swapped (inr b) = inl b
+between_there : (s : Separator) (text : List ℕ) → Free (Word (between_word s)) text → (Free (Word word.Comma) text) ⊎ (Free (Word word.Or) text)
+between_there separator.Comma text h = inl h
+between_there separator.Or text h = inr h
 
 more_there : (x : FurtherItem) (text : List ℕ) → Fine (more_tokens x) → Run (more_tokens x) text → IsText further_form text
-more_there x text fine h = both (λ t w. swapped (two_there word.Or word.Comma between_word refl refl x.with_or t w)) (λ t p. item_there x.item t fine.1 p) h
+more_there x text fine h = both (between_there x.separator) (λ t p. item_there x.item t fine.1 p) h
 
 more_back : (text : List ℕ) → IsText further_form text → (x : FurtherItem) × Fine (more_tokens x) × Run (more_tokens x) text
 more_back text h =
-    let b = two_back word.Or word.Comma between_word refl refl h.front (swapped h.first) in
+    let b = two_back between_word separator.Comma separator.Or h.front h.first in
     let x = item_back h.back h.second in
-    (record { with_or = b.0; item = x.0 }, (tt, x.1), record { front = h.front; back = h.back; joined = h.joined; first = b.1; second = x.2 })
+    (record { separator = b.0; item = x.0 }, (tt, x.1), record { front = h.front; back = h.back; joined = h.joined; first = b.1; second = x.2 })
 
 -- ---- whole texts
 

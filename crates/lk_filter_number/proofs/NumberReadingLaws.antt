@@ -4,7 +4,8 @@ use Rattle.std.specs.Option.{option_and_then, option_or}
 use Rattle.std.proofs.lemmas.Bool.{false≢true}
 use Rattle.lk_grammar.specs.declared.literals.Token.TheVariants.{Word, Literal}
 use Rattle.lk_grammar.specs.Listed.{further_tokens}
-use Rattle.lk_filter_number.specs.Numbers.{NumberToken, order_word, open_word, close_word, end_token, and_tokens, range_tokens, item_tokens, between_word, more_tokens, number_tokens, is_same_word, behind_word, first_number, order_of, first_order, first_compared, and_compared, with_compared, further_compared, after_to, after_number, range_from_number, range_up_to, range_compared, one_word, first_end, interval_end, range_interval, range_of, tested, differing, item_of, further_item, then_further, further_from, items_of}
+use Rattle.lk_filter_number.specs.Numbers.{NumberToken, order_word, open_word, close_word, unlike_word, end_token, and_tokens, range_tokens, item_tokens, between_word, more_tokens, number_tokens}
+use Rattle.lk_filter_number.specs.NumberReading.{is_same_word, behind_word, first_number, order_of, first_order, first_compared, and_compared, with_compared, further_compared, after_to, after_number, range_from_number, range_up_to, range_compared, one_word, first_end, interval_end, range_interval, range_of, tested, differing, item_of, further_item, then_further, further_from, items_of}
 use Rattle.lk_filter_number.specs.declared.number.words.NumberWord.{NumberWord}
 use Rattle.lk_filter_number.specs.declared.number.words.NumberWord.TheVariants as word
 use Rattle.lk_filter_number.specs.declared.number.items.WrittenEnd.{WrittenEnd}
@@ -12,6 +13,11 @@ use Rattle.lk_filter_number.specs.declared.number.items.WrittenEnd.TheVariants a
 use Rattle.lk_filter_number.specs.declared.number.items.Compared.{Compared}
 use Rattle.lk_filter_number.specs.declared.number.items.Order.{Order}
 use Rattle.lk_filter_number.specs.declared.number.items.Order.TheVariants as order
+use Rattle.lk_filter_number.specs.declared.number.items.Bracket.{Bracket}
+use Rattle.lk_filter_number.specs.declared.number.items.Bracket.TheVariants.{Square, Round}
+use Rattle.lk_filter_number.specs.declared.number.items.UnlikeSign.TheVariants.{Angles, Exclamation}
+use Rattle.lk_filter_number.specs.declared.number.items.Separator.{Separator}
+use Rattle.lk_filter_number.specs.declared.number.items.Separator.TheVariants as separator
 use Rattle.lk_filter_number.specs.declared.number.items.NumberRange.{NumberRange}
 use Rattle.lk_filter_number.specs.declared.number.items.NumberRange.TheVariants.{Is, From, UpTo, Between, Compare, Interval}
 use Rattle.lk_filter_number.specs.declared.number.items.NumberItem.{NumberItem}
@@ -68,13 +74,13 @@ end_again (end.Number n) rest = refl
 end_again end.Inf rest = refl
 end_again end.MinusInf rest = refl
 
-close_again : (close : Bool) (rest : List NumberToken) → one_word word.CloseSquare word.CloseRound (Word (close_word close) ∷ rest) ≡ Some (close, rest)
-close_again true rest = refl
-close_again false rest = refl
+close_again : (close : Bracket) (rest : List NumberToken) → one_word word.CloseSquare Square word.CloseRound Round (Word (close_word close) ∷ rest) ≡ Some (close, rest)
+close_again Square rest = refl
+close_again Round rest = refl
 
-interval_again : (square : Bool) (low high : WrittenEnd) (close : Bool) (rest : List NumberToken) → range_of (range_tokens (Interval square low high close) ++ rest) ≡ Some (Interval square low high close, rest)
-interval_again true low high close rest = rw (end_again low (Word word.Comma ∷ end_token high ∷ Word (close_word close) ∷ rest), end_again high (Word (close_word close) ∷ rest), close_again close rest) refl
-interval_again false low high close rest = rw (end_again low (Word word.Comma ∷ end_token high ∷ Word (close_word close) ∷ rest), end_again high (Word (close_word close) ∷ rest), close_again close rest) refl
+interval_again : (bracket : Bracket) (low high : WrittenEnd) (close : Bracket) (rest : List NumberToken) → range_of (range_tokens (Interval bracket low high close) ++ rest) ≡ Some (Interval bracket low high close, rest)
+interval_again Square low high close rest = rw (end_again low (Word word.Comma ∷ end_token high ∷ Word (close_word close) ∷ rest), end_again high (Word (close_word close) ∷ rest), close_again close rest) refl
+interval_again Round low high close rest = rw (end_again low (Word word.Comma ∷ end_token high ∷ Word (close_word close) ∷ rest), end_again high (Word (close_word close) ∷ rest), close_again close rest) refl
 
 compare_again : (o : Order) (n : List ℕ) (more : List Compared) (rest : List NumberToken) → Ends rest → range_of (Word (order_word o) ∷ Literal n ∷ (and_tokens more ++ rest)) ≡ Some (Compare (record { comparison = o; number = n }) more, rest)
 compare_again order.Less n more rest h = rw (further_again more rest h) refl
@@ -88,7 +94,7 @@ range_again (From n) rest h = rw (no_number rest h) refl
 range_again (UpTo n) rest h = refl
 range_again (Between m n) rest h = refl
 range_again (Compare c more) rest h = compare_again c.comparison c.number more rest h
-range_again (Interval square low high close) rest h = interval_again square low high close rest
+range_again (Interval bracket low high close) rest h = interval_again bracket low high close rest
 
 -- no range begins with `NOT` or `NULL`
 no_word : (w : NumberWord) (r : NumberRange) (rest : List NumberToken) → (w ≡ word.Not) ⊎ (w ≡ word.Null) → behind_word w (range_tokens r ++ rest) ≡ None
@@ -108,10 +114,10 @@ no_word w (Compare c more) rest h = by_order c.comparison h
     by_order order.Greater (inr e) = rw e refl
     by_order order.AtLeast (inl e) = rw e refl
     by_order order.AtLeast (inr e) = rw e refl
-no_word w (Interval true low high close) rest (inl e) = rw e refl
-no_word w (Interval true low high close) rest (inr e) = rw e refl
-no_word w (Interval false low high close) rest (inl e) = rw e refl
-no_word w (Interval false low high close) rest (inr e) = rw e refl
+no_word w (Interval Square low high close) rest (inl e) = rw e refl
+no_word w (Interval Square low high close) rest (inr e) = rw e refl
+no_word w (Interval Round low high close) rest (inl e) = rw e refl
+no_word w (Interval Round low high close) rest (inr e) = rw e refl
 
 tested_again : (negated : Bool) (r : NumberRange) (rest : List NumberToken) → Ends rest → tested negated (range_tokens r ++ rest) ≡ Some (Range negated r, rest)
 tested_again negated r rest h = rw (no_word word.Null r rest (inr refl), range_again r rest h) refl
@@ -121,23 +127,23 @@ item_again (Range true r) rest h = rw (tested_again true r rest h) refl
 item_again (Range false r) rest h = rw (no_word word.Not r rest (inl refl), tested_again false r rest h) refl
 item_again (Null true) rest h = refl
 item_again (Null false) rest h = refl
-item_again (Unlike true n) rest h = refl
-item_again (Unlike false n) rest h = refl
+item_again (Unlike Exclamation n) rest h = refl
+item_again (Unlike Angles n) rest h = refl
 
 further_item_again : (x : FurtherItem) (rest : List NumberToken) → Ends rest → further_item (more_tokens x ++ rest) ≡ Some (x, rest)
-further_item_again x rest h = by_word x.with_or x.item (item_again x.item rest h)
+further_item_again x rest h = by_word x.separator x.item (item_again x.item rest h)
   where
-    by_word : (b : Bool) (item : NumberItem) → item_of (item_tokens item ++ rest) ≡ Some (item, rest) → further_item (Word (between_word b) ∷ (item_tokens item ++ rest)) ≡ Some (record { with_or = b; item = item }, rest)
-    by_word true item e = rw e refl
-    by_word false item e = rw e refl
+    by_word : (b : Separator) (item : NumberItem) → item_of (item_tokens item ++ rest) ≡ Some (item, rest) → further_item (Word (between_word b) ∷ (item_tokens item ++ rest)) ≡ Some (record { separator = b; item = item }, rest)
+    by_word separator.Or item e = rw e refl
+    by_word separator.Comma item e = rw e refl
 
 pub further_ends : (more : List FurtherItem) → Ends (further_tokens more_tokens more)
 further_ends [] = tt
-further_ends (x ∷ more) = by_word x.with_or
+further_ends (x ∷ more) = by_word x.separator
   where
-    by_word : (b : Bool) → Ends (Word (between_word b) ∷ (item_tokens x.item ++ further_tokens more_tokens more))
-    by_word true = tt
-    by_word false = tt
+    by_word : (b : Separator) → Ends (Word (between_word b) ∷ (item_tokens x.item ++ further_tokens more_tokens more))
+    by_word separator.Or = tt
+    by_word separator.Comma = tt
 
 list_again : (more : List FurtherItem) (fuel : List NumberToken) → length (further_tokens more_tokens more) ≤ length fuel → further_from fuel (further_tokens more_tokens more) ≡ Some more
 list_again [] [] h = refl
@@ -161,15 +167,14 @@ range_begun (From n) rest = record { head = Literal n; tail = Word word.To ∷ r
 range_begun (UpTo n) rest = record { head = Word word.To; tail = Literal n ∷ rest; is = refl }
 range_begun (Between m n) rest = record { head = Literal m; tail = Word word.To ∷ Literal n ∷ rest; is = refl }
 range_begun (Compare c more) rest = record { head = Word (order_word c.comparison); tail = Literal c.number ∷ (and_tokens more ++ rest); is = refl }
-range_begun (Interval square low high close) rest = record { head = Word (open_word square); tail = end_token low ∷ Word word.Comma ∷ end_token high ∷ Word (close_word close) ∷ rest; is = refl }
+range_begun (Interval bracket low high close) rest = record { head = Word (open_word bracket); tail = end_token low ∷ Word word.Comma ∷ end_token high ∷ Word (close_word close) ∷ rest; is = refl }
 
 item_begun : (x : NumberItem) (rest : List NumberToken) → IsBegun (item_tokens x ++ rest)
 item_begun (Range true r) rest = record { head = Word word.Not; tail = range_tokens r ++ rest; is = refl }
 item_begun (Range false r) rest = range_begun r rest
 item_begun (Null true) rest = record { head = Word word.Not; tail = Word word.Null ∷ rest; is = refl }
 item_begun (Null false) rest = record { head = Word word.Null; tail = rest; is = refl }
-item_begun (Unlike true n) rest = record { head = Word word.Unequal; tail = Literal n ∷ rest; is = refl }
-item_begun (Unlike false n) rest = record { head = Word word.Unlike; tail = Literal n ∷ rest; is = refl }
+item_begun (Unlike sign n) rest = record { head = Word (unlike_word sign); tail = Literal n ∷ rest; is = refl }
 
 abbrev items_from : List NumberToken → Option (Option NumberItems)
 items_from tokens = option_and_then (λ x. option_map (λ more. Some (record { first = x.0; more = more })) (further_from tokens x.1)) (item_of tokens)
@@ -268,11 +273,11 @@ further_before (t ∷ u ∷ v ∷ tokens) =
           | Some c ↦ λ is. and_before t u v c tokens is ∙ ap (λ z. Word word.And ∷ Word (order_word c.comparison) ∷ Literal c.number ∷ z) rest
         ] refl
 
-one_before : (w v : NumberWord) (tokens : List NumberToken) (b : Bool × List NumberToken) → one_word w v tokens ≡ Some b → tokens ≡ Word (if b.0 then w else v) ∷ b.1
-one_before w v tokens b e =
-    or_before (option_map (λ rest. (true, rest)) (behind_word w tokens)) (option_map (λ rest. (false, rest)) (behind_word v tokens)) b e
-    (λ e. map_before (λ rest. (true, rest)) (behind_word w tokens) b e (λ rest is same. word_before w tokens rest is ∙ ap (λ p. Word (if p.0 then w else v) ∷ p.1) same))
-    (λ e. map_before (λ rest. (false, rest)) (behind_word v tokens) b e (λ rest is same. word_before v tokens rest is ∙ ap (λ p. Word (if p.0 then w else v) ∷ p.1) same))
+one_before : {A : Type 0} (word_of : A → NumberWord) (a b : A) (tokens : List NumberToken) (x : A × List NumberToken) → one_word (word_of a) a (word_of b) b tokens ≡ Some x → tokens ≡ Word (word_of x.0) ∷ x.1
+one_before word_of a b tokens x e =
+    or_before (option_map (λ rest. (a, rest)) (behind_word (word_of a) tokens)) (option_map (λ rest. (b, rest)) (behind_word (word_of b) tokens)) x e
+    (λ e. map_before (λ rest. (a, rest)) (behind_word (word_of a) tokens) x e (λ rest is same. word_before (word_of a) tokens rest is ∙ ap (λ p. Word (word_of p.0) ∷ p.1) same))
+    (λ e. map_before (λ rest. (b, rest)) (behind_word (word_of b) tokens) x e (λ rest is same. word_before (word_of b) tokens rest is ∙ ap (λ p. Word (word_of p.0) ∷ p.1) same))
 
 end_before : (tokens : List NumberToken) (x : WrittenEnd × List NumberToken) → first_end tokens ≡ Some x → tokens ≡ end_token x.0 ∷ x.1
 end_before tokens x e =
@@ -295,27 +300,17 @@ after_before n tokens r e =
 
 interval_before : (tokens : List NumberToken) (r : NumberRange × List NumberToken) → range_interval tokens ≡ Some r → tokens ≡ range_tokens r.0 ++ r.1
 interval_before tokens r e =
-    then_before (λ left. option_and_then (λ low. interval_end left.0 low.0 low.1) (first_end left.1)) (one_word word.OpenSquare word.OpenRound tokens) r e (λ left opened e.
+    then_before (λ left. option_and_then (λ low. interval_end left.0 low.0 low.1) (first_end left.1)) (one_word word.OpenSquare Square word.OpenRound Round tokens) r e (λ left opened e.
     then_before (λ low. interval_end left.0 low.0 low.1) (first_end left.1) r e (λ low first e.
-    then_before (λ rest. option_and_then (λ high. option_map (λ close. (Interval left.0 low.0 high.0 close.0, close.1)) (one_word word.CloseSquare word.CloseRound high.1)) (first_end rest)) (behind_word word.Comma low.1) r e (λ rest comma e.
-    then_before (λ high. option_map (λ close. (Interval left.0 low.0 high.0 close.0, close.1)) (one_word word.CloseSquare word.CloseRound high.1)) (first_end rest) r e (λ high second e.
-    map_before (λ close. (Interval left.0 low.0 high.0 close.0, close.1)) (one_word word.CloseSquare word.CloseRound high.1) r e (λ close closed same.
-    one_before word.OpenSquare word.OpenRound tokens left opened
-    ∙ ap (λ x. Word x ∷ left.1) (open_is left.0)
+    then_before (λ rest. option_and_then (λ high. option_map (λ close. (Interval left.0 low.0 high.0 close.0, close.1)) (one_word word.CloseSquare Square word.CloseRound Round high.1)) (first_end rest)) (behind_word word.Comma low.1) r e (λ rest comma e.
+    then_before (λ high. option_map (λ close. (Interval left.0 low.0 high.0 close.0, close.1)) (one_word word.CloseSquare Square word.CloseRound Round high.1)) (first_end rest) r e (λ high second e.
+    map_before (λ close. (Interval left.0 low.0 high.0 close.0, close.1)) (one_word word.CloseSquare Square word.CloseRound Round high.1) r e (λ close closed same.
+    one_before open_word Square Round tokens left opened
     ∙ ap (λ z. Word (open_word left.0) ∷ z) (end_before left.1 low first)
     ∙ ap (λ z. Word (open_word left.0) ∷ end_token low.0 ∷ z) (word_before word.Comma low.1 rest comma)
     ∙ ap (λ z. Word (open_word left.0) ∷ end_token low.0 ∷ Word word.Comma ∷ z) (end_before rest high second)
-    ∙ ap (λ z. Word (open_word left.0) ∷ end_token low.0 ∷ Word word.Comma ∷ end_token high.0 ∷ z) (one_before word.CloseSquare word.CloseRound high.1 close closed)
-    ∙ ap (λ x. Word (open_word left.0) ∷ end_token low.0 ∷ Word word.Comma ∷ end_token high.0 ∷ Word x ∷ close.1) (close_is close.0)
+    ∙ ap (λ z. Word (open_word left.0) ∷ end_token low.0 ∷ Word word.Comma ∷ end_token high.0 ∷ z) (one_before close_word Square Round high.1 close closed)
     ∙ ap (λ p. range_tokens p.0 ++ p.1) same)))))
-  where
-    open_is : (b : Bool) → (if b then word.OpenSquare else word.OpenRound) ≡ open_word b
-    open_is true = refl
-    open_is false = refl
-
-    close_is : (b : Bool) → (if b then word.CloseSquare else word.CloseRound) ≡ close_word b
-    close_is true = refl
-    close_is false = refl
 
 range_before : (tokens : List NumberToken) (r : NumberRange × List NumberToken) → range_of tokens ≡ Some r → tokens ≡ range_tokens r.0 ++ r.1
 range_before tokens r e =
@@ -348,13 +343,9 @@ tested_before negated tokens x e =
 
 differing_before : (tokens : List NumberToken) (x : NumberItem × List NumberToken) → differing tokens ≡ Some x → tokens ≡ item_tokens x.0 ++ x.1
 differing_before tokens x e =
-    then_before (λ unequal. option_map (λ n. (Unlike unequal.0 n.0, n.1)) (first_number unequal.1)) (one_word word.Unequal word.Unlike tokens) x e (λ unequal is e.
-    map_before (λ n. (Unlike unequal.0 n.0, n.1)) (first_number unequal.1) x e (λ n found same.
-    one_before word.Unequal word.Unlike tokens unequal is ∙ ap (λ z. Word (if unequal.0 then word.Unequal else word.Unlike) ∷ z) (number_before unequal.1 n found) ∙ unlike_is unequal.0 n.0 n.1 ∙ ap (λ p. item_tokens p.0 ++ p.1) same))
-  where
-    unlike_is : (b : Bool) (n : List ℕ) (rest : List NumberToken) → Word (if b then word.Unequal else word.Unlike) ∷ Literal n ∷ rest ≡ item_tokens (Unlike b n) ++ rest
-    unlike_is true n rest = refl
-    unlike_is false n rest = refl
+    then_before (λ sign. option_map (λ n. (Unlike sign.0 n.0, n.1)) (first_number sign.1)) (one_word word.Unequal Exclamation word.Unlike Angles tokens) x e (λ sign is e.
+    map_before (λ n. (Unlike sign.0 n.0, n.1)) (first_number sign.1) x e (λ n found same.
+    one_before unlike_word Exclamation Angles tokens sign is ∙ ap (λ z. Word (unlike_word sign.0) ∷ z) (number_before sign.1 n found) ∙ ap (λ p. item_tokens p.0 ++ p.1) same))
 
 item_before : (tokens : List NumberToken) (x : NumberItem × List NumberToken) → item_of tokens ≡ Some x → tokens ≡ item_tokens x.0 ++ x.1
 item_before tokens x e =
@@ -364,13 +355,9 @@ item_before tokens x e =
 
 further_item_before : (tokens : List NumberToken) (x : FurtherItem × List NumberToken) → further_item tokens ≡ Some x → tokens ≡ more_tokens x.0 ++ x.1
 further_item_before tokens x e =
-    then_before (λ with_or. option_map (λ i. (record { with_or = with_or.0; item = i.0 }, i.1)) (item_of with_or.1)) (one_word word.Or word.Comma tokens) x e (λ with_or is e.
-    map_before (λ i. (record { with_or = with_or.0; item = i.0 }, i.1)) (item_of with_or.1) x e (λ i found same.
-    one_before word.Or word.Comma tokens with_or is ∙ ap (λ w. Word w ∷ with_or.1) (between_is with_or.0) ∙ ap (λ z. Word (between_word with_or.0) ∷ z) (item_before with_or.1 i found) ∙ ap (λ p. more_tokens p.0 ++ p.1) same))
-  where
-    between_is : (b : Bool) → (if b then word.Or else word.Comma) ≡ between_word b
-    between_is true = refl
-    between_is false = refl
+    then_before (λ before. option_map (λ i. (record { separator = before.0; item = i.0 }, i.1)) (item_of before.1)) (one_word word.Or separator.Or word.Comma separator.Comma tokens) x e (λ before is e.
+    map_before (λ i. (record { separator = before.0; item = i.0 }, i.1)) (item_of before.1) x e (λ i found same.
+    one_before between_word separator.Or separator.Comma tokens before is ∙ ap (λ z. Word (between_word before.0) ∷ z) (item_before before.1 i found) ∙ ap (λ p. more_tokens p.0 ++ p.1) same))
 
 list_before : (fuel tokens : List NumberToken) (more : List FurtherItem) → further_from fuel tokens ≡ Some more → tokens ≡ further_tokens more_tokens more
 list_before [] [] more e = ap (further_tokens more_tokens) (some_is [] more e)

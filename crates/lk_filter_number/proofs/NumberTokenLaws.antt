@@ -6,15 +6,19 @@ use Rattle.std.proofs.lemmas.Bool.{false≢true, leb-true}
 use Rattle.std.proofs.lemmas.Bool.Decides.{Decides-eqb}
 use Rattle.lk_grammar.specs.Forms.{IsText}
 use Rattle.lk_grammar.specs.Words.{is_word, is_small, IsFirst, letter_starts, each_alone}
-use Rattle.lk_grammar.specs.Tokens.{tokens_form, AreClear}
-use Rattle.lk_grammar.specs.Literals.{token_form, is_ended, next_starts, is_next_token, IsClearToken, IsLiteralOf}
-use Rattle.lk_grammar.specs.Numbers.{number, is_of_number, begins_no_number}
+use Rattle.lk_grammar.specs.Tokens.{tokens_form, tokens_of, AreClear}
+use Rattle.lk_grammar.specs.Literals.{token_form, first_of, is_ended, next_starts, is_next_token, IsClearToken, IsLiteralOf}
+use Rattle.lk_grammar.specs.Numbers.{number, number_length, is_of_number, begins_no_number}
 use Rattle.lk_grammar.specs.declared.literals.Token.TheVariants.{Word, Literal}
 use Rattle.lk_grammar.proofs.WordLaws.{text_one}
 use Rattle.lk_grammar.proofs.FormLaws.{both}
+use Rattle.lk_grammar.proofs.LiteralLaws.{tokens_lex}
+use Rattle.lk_grammar.proofs.TokenLaws.{tokens_spelled}
+use Rattle.lk_grammar.proofs.NumberLaws.{number_reader}
 use Rattle.lk_types.specs.declared.filter.Filter.{Filter}
 use Rattle.lk_grammar.specs.Listed.{further_tokens}
-use Rattle.lk_filter_number.specs.Numbers.{letters_of, NumberToken, order_word, open_word, close_word, end_token, and_tokens, range_tokens, item_tokens, between_word, more_tokens, number_tokens, items_of, number_filter, IsNumberFilter}
+use Rattle.lk_filter_number.specs.Numbers.{letters_of, NumberToken, order_word, open_word, close_word, end_token, and_tokens, range_tokens, item_tokens, between_word, more_tokens, number_tokens, number_filter, IsNumberFilter}
+use Rattle.lk_filter_number.specs.NumberReading.{items_of}
 use Rattle.lk_filter_number.specs.declared.number.words.NumberWord.{NumberWord}
 use Rattle.lk_filter_number.specs.declared.number.words.NumberWord.TheVariants as word
 use Rattle.lk_filter_number.specs.declared.number.items.WrittenEnd.{WrittenEnd}
@@ -22,6 +26,11 @@ use Rattle.lk_filter_number.specs.declared.number.items.WrittenEnd.TheVariants a
 use Rattle.lk_filter_number.specs.declared.number.items.Compared.{Compared}
 use Rattle.lk_filter_number.specs.declared.number.items.Order.{Order}
 use Rattle.lk_filter_number.specs.declared.number.items.Order.TheVariants as order
+use Rattle.lk_filter_number.specs.declared.number.items.Bracket.{Bracket}
+use Rattle.lk_filter_number.specs.declared.number.items.Bracket.TheVariants.{Square, Round}
+use Rattle.lk_filter_number.specs.declared.number.items.UnlikeSign.TheVariants.{Angles, Exclamation}
+use Rattle.lk_filter_number.specs.declared.number.items.Separator.{Separator}
+use Rattle.lk_filter_number.specs.declared.number.items.Separator.TheVariants as separator
 use Rattle.lk_filter_number.specs.declared.number.items.NumberRange.{NumberRange}
 use Rattle.lk_filter_number.specs.declared.number.items.NumberRange.TheVariants.{Is, From, UpTo, Between, Compare, Interval}
 use Rattle.lk_filter_number.specs.declared.number.items.NumberItem.{NumberItem}
@@ -81,31 +90,31 @@ apart_range (From n) rest h ok = rw ok refl
 apart_range (UpTo n) rest h ok = rw (behind_number n rest h, ok) refl
 apart_range (Between m n) rest h ok = rw (behind_number n rest h, ok) refl
 apart_range (Compare c more) rest h ok = ordered c.comparison c.number (and_tokens more ++ rest) (behind_ands c.number more rest h) (apart_ands more rest h ok)
-apart_range (Interval square low high close) rest h ok = opened square _ (apart_end low word.Comma (end_token high ∷ Word (close_word close) ∷ rest) (apart_end high (close_word close) rest (closed close)))
+apart_range (Interval bracket low high close) rest h ok = opened bracket _ (apart_end low word.Comma (end_token high ∷ Word (close_word close) ∷ rest) (apart_end high (close_word close) rest (closed close)))
   where
-    closed : (b : Bool) → are_apart (Word (close_word b) ∷ rest) ≡ true
-    closed true = ok
-    closed false = ok
+    closed : (b : Bracket) → are_apart (Word (close_word b) ∷ rest) ≡ true
+    closed Square = ok
+    closed Round = ok
 
-    opened : (b : Bool) (tokens : List NumberToken) → are_apart tokens ≡ true → are_apart (Word (open_word b) ∷ tokens) ≡ true
-    opened true tokens p = p
-    opened false tokens p = p
+    opened : (b : Bracket) (tokens : List NumberToken) → are_apart tokens ≡ true → are_apart (Word (open_word b) ∷ tokens) ≡ true
+    opened Square tokens p = p
+    opened Round tokens p = p
 
 apart_item : (x : NumberItem) (rest : List NumberToken) → Ends rest → are_apart rest ≡ true → are_apart (item_tokens x ++ rest) ≡ true
 apart_item (Range true r) rest h ok = apart_range r rest h ok
 apart_item (Range false r) rest h ok = apart_range r rest h ok
 apart_item (Null true) rest h ok = ok
 apart_item (Null false) rest h ok = ok
-apart_item (Unlike true n) rest h ok = rw (behind_number n rest h, ok) refl
-apart_item (Unlike false n) rest h ok = rw (behind_number n rest h, ok) refl
+apart_item (Unlike Exclamation n) rest h ok = rw (behind_number n rest h, ok) refl
+apart_item (Unlike Angles n) rest h ok = rw (behind_number n rest h, ok) refl
 
 apart_further : (more : List FurtherItem) → are_apart (further_tokens more_tokens more) ≡ true
 apart_further [] = refl
-apart_further (x ∷ more) = between x.with_or _ (apart_item x.item (further_tokens more_tokens more) (further_ends more) (apart_further more))
+apart_further (x ∷ more) = between x.separator _ (apart_item x.item (further_tokens more_tokens more) (further_ends more) (apart_further more))
   where
-    between : (b : Bool) (tokens : List NumberToken) → are_apart tokens ≡ true → are_apart (Word (between_word b) ∷ tokens) ≡ true
-    between true tokens p = p
-    between false tokens p = p
+    between : (b : Separator) (tokens : List NumberToken) → are_apart tokens ≡ true → are_apart (Word (between_word b) ∷ tokens) ≡ true
+    between separator.Or tokens p = p
+    between separator.Comma tokens p = p
 
 apart_items : (items : Option NumberItems) → are_apart (number_tokens items) ≡ true
 apart_items None = refl
@@ -346,3 +355,13 @@ numbers_are_read tokens text every found e f h =
 
 pub no_numbers : (text : List ℕ) → ((others : List NumberToken) → AreClear (IsClearToken (32 ∷ []) letters_of number is_of_number begins_no_number table) others → IsText (tokens_form (32 ∷ []) (token_form letters_of) others) text → None ≡ Some others) → (f : Filter) → IsNumberFilter f text → None ≡ Some f
 no_numbers text every f h = absurd (none_some (every (number_tokens h.0) (items_clear h.0 h.1.numbers) h.1.spelled))
+
+-- ---- a text spells one filter
+
+taken_off : (text : List ℕ) (tokens : List NumberToken) → AreClear (IsClearToken (32 ∷ []) letters_of number is_of_number begins_no_number table) tokens → IsText (tokens_form (32 ∷ []) (token_form letters_of) tokens) text → tokens_of (32 ∷ []) (first_of letters_of number_length table) text ≡ Some tokens
+taken_off text tokens clear spelled = tokens_spelled (tokens_lex (32 ∷ []) letters_of (number_reader (32 ∷ []) refl) table) tokens text text clear spelled (omega arith)
+
+pub one_number_filter : (text : List ℕ) (f g : Filter) → IsNumberFilter f text → IsNumberFilter g text → f ≡ g
+one_number_filter text f g h k =
+    let off = taken_off text (number_tokens h.0) (items_clear h.0 h.1.numbers) h.1.spelled in
+    some_is f g (numbers_are_read (number_tokens h.0) text (λ others clear spelled. sym off ∙ taken_off text others clear spelled) (Some f) (sym (ap (option_and_then number_filter) (items_again h.0) ∙ h.2)) g k)

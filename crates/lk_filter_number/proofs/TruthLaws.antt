@@ -1,12 +1,14 @@
 -- Filters of truth values: what is read is spelled, and what is spelled is read.
-use Rattle.std.proofs.Common.{◌≡◌, inl, inr, ℕ, Bool, true, false, List, [], ◌∷◌, Option, Some, None, IfSome, option_map, refl, sym, subst, ap, ◌∙◌}
+use Rattle.std.proofs.Common.{◌≡◌, inl, inr, ℕ, Bool, true, false, List, [], ◌∷◌, Option, Some, None, IfSome, option_map, refl, sym, subst, ap, ◌∙◌, arith}
 use Rattle.std.specs.List.{AllByRecursion}
 use Rattle.std.specs.Option.{option_and_then}
 use Rattle.lk_grammar.specs.Forms.{IsText}
 use Rattle.lk_grammar.specs.Places.{Judges}
 use Rattle.lk_grammar.proofs.PlaceLaws.{same_judgement}
-use Rattle.lk_grammar.specs.Words.{word_form, is_word, is_next_word, starts, IsFirst, IsClearWord}
-use Rattle.lk_grammar.specs.Tokens.{tokens_form, AreClear}
+use Rattle.lk_grammar.specs.Words.{word_form, first_word, is_word, is_next_word, starts, IsFirst, IsClearWord}
+use Rattle.lk_grammar.specs.Tokens.{tokens_form, tokens_of, AreClear}
+use Rattle.lk_grammar.proofs.TokenLaws.{tokens_spelled}
+use Rattle.lk_grammar.proofs.WordLaws.{table_lexes}
 use Rattle.lk_types.specs.declared.filter.Filter.{Filter}
 use Rattle.lk_filter_number.specs.Truths.{letters_of, word_of, more_words, truth_words, with_truth, truths_behind, truths_of, truth_filter, IsTruthFilter, IsTruth, value_form, further_form, truth_form}
 use Rattle.lk_grammar.specs.Listed.{run_form, further_tokens, listed}
@@ -101,6 +103,15 @@ truths_are_read words text every found e f h =
 
 pub no_truths : (text : List ℕ) → ((others : List TruthWord) → AreClear (IsClearWord (32 ∷ []) letters_of table) others → IsSpelled text others → None ≡ Some others) → (f : Filter) → IsTruthFilter f text → None ≡ Some f
 no_truths text every f h = absurd (none_some (every (truth_words h.0) (are_clear (truth_words h.0)) h.1))
+
+-- ---- a text spells one filter
+
+taken_off : (text : List ℕ) (words : List TruthWord) → IsSpelled text words → tokens_of (32 ∷ []) (first_word letters_of table) text ≡ Some words
+taken_off text words spelled = tokens_spelled (table_lexes letters_of (32 ∷ []) table) words text text (are_clear words) spelled (omega arith)
+
+pub one_truth_filter : (text : List ℕ) (f g : Filter) → IsTruthFilter f text → IsTruthFilter g text → f ≡ g
+one_truth_filter text f g h k =
+    some_is f g (truths_are_read (truth_words h.0) text (λ others clear spelled. sym (taken_off text (truth_words h.0) h.1) ∙ taken_off text others spelled) (Some f) (sym (ap (option_map truth_filter) (read_again h.0) ∙ h.2)) g k)
 
 -- ---- the grammar as a form
 

@@ -5,7 +5,8 @@ use Rattle.std.specs.Option.{unwrap_or}
 use Rattle.std.proofs.lemmas.Bool.{cases_lt, false≢true}
 use Rattle.lk_grammar.specs.Places.{Judges, IsPlace}
 use Rattle.lk_grammar.proofs.ReadingLaws.{place_of_judged}
-use Rattle.lk_filter_number.specs.Numbers.{IsNumbers, IsNumbersPlace, IsUnreadAt, is_number_byte, is_unread, before_place, unread_from}
+use Rattle.lk_filter_number.specs.Numbers.{IsNumbers, IsNumbersPlace, IsUnreadAt, is_number_byte, is_unread}
+use Rattle.lk_filter_number.specs.NumberReading.{before_place, unread_from}
 
 -- a number that is not read begins at the place, where the byte a is before the text
 abbrev Unread : ℕ → List ℕ → ℕ → Type 0

@@ -6,6 +6,3 @@ mod truth;
 
 pub use number::{place_of_numbers, read_numbers};
 pub use truth::{judge_truths, read_truths};
-
-#[cfg(test)]
-mod tests;

@@ -1,8 +1,8 @@
 //! Filters of numbers.
 mod items;
+mod meaning;
 mod place;
 mod reading;
-mod tests_of;
 mod words;
 
 pub use place::place_of_numbers;

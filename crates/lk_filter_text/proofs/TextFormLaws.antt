@@ -16,7 +16,8 @@ use Rattle.lk_grammar.specs.Listed.{further_tokens}
 use Rattle.lk_filter_text.specs.Characters.{later, long_character, letter_form, plain_form}
 use Rattle.lk_filter_text.specs.declared.words.TextWord.{TextWord}
 use Rattle.lk_filter_text.specs.declared.words.TextWord.TheVariants as word
-use Rattle.lk_filter_text.specs.Texts.{letters_of, TextToken, space, minus, is_character, is_space, is_minus, is_comma, TextItem, spaces, minus_tokens, item_tokens, begins_solid, ends_solid, has_no_comma, IsTextItem, TextItems, blank, items, more_tokens, IsTextText, text_filter, parts_of, IsTexts, blanks, first_form, solid_form, pattern_form, item_form, further_form, text_form}
+use Rattle.lk_filter_text.specs.Texts.{letters_of, TextToken, space, minus, is_character, is_space, is_minus, is_comma, TextItem, spaces, minus_tokens, item_tokens, begins_solid, ends_solid, has_no_comma, IsTextItem, TextItems, more_tokens, IsTextText, text_filter, parts_of, IsTexts, blank, items}
+use Rattle.lk_filter_text.specs.TextReading.{blanks, first_form, solid_form, pattern_form, item_form, further_form, text_form}
 
 -- ---- tokens that are written one behind the other
 

@@ -2,7 +2,8 @@
 use Rattle.std.proofs.Common.{◌≡◌, ℕ, zero, suc, ◌<◌, arith, Bool, true, false, List, [], ◌∷◌, ◌++◌, length, Option, Some, None, option_map, if◌then◌else◌, refl, ap, ◌∙◌, append_assoc}
 use Rattle.lk_types.specs.declared.filter.Filter.{Filter}
 use Rattle.lk_types.specs.declared.filter.Test.{Test}
-use Rattle.lk_filter_text.specs.Texts.{TextToken, Part, text_test, includes, excludes, is_comma, before_comma, behind_comma, with_first, between_commas, read_part, with_part, read_parts, parts_left}
+use Rattle.lk_filter_text.specs.Texts.{TextToken, Part, text_test, includes, excludes, is_comma}
+use Rattle.lk_filter_text.specs.TextReading.{before_comma, behind_comma, with_first, between_commas, read_part, with_part, read_parts, parts_left}
 
 -- a filter that has tests already
 abbrev pub grown_filter : List Test → List Test → List Part → Filter

@@ -1,16 +1,19 @@
 -- Filters of texts: each mark and each character stands clear of what is behind it.
-use Rattle.std.proofs.Common.{◌≡◌, inl, inr, ℕ, true, false, not, ◌&&◌, List, [], ◌∷◌, Option, Some, None, IfSome, option_map, refl, sym, ap, subst, ◌∙◌}
+use Rattle.std.proofs.Common.{◌≡◌, inl, inr, ℕ, true, false, not, ◌&&◌, List, [], ◌∷◌, Option, Some, None, IfSome, option_map, refl, sym, ap, subst, ◌∙◌, arith}
 use Rattle.std.specs.List.{AllByRecursion}
 use Rattle.lk_grammar.specs.Forms.{IsText}
 use Rattle.lk_grammar.specs.Words.{is_word, is_small, IsFirst}
-use Rattle.lk_grammar.specs.Tokens.{tokens_form, AreClear}
-use Rattle.lk_grammar.specs.Literals.{token_form, is_ended, next_starts, is_next_token, IsClearToken, IsLiteralOf}
+use Rattle.lk_grammar.specs.Tokens.{tokens_form, tokens_of, AreClear}
+use Rattle.lk_grammar.specs.Literals.{token_form, first_of, is_ended, next_starts, is_next_token, IsClearToken, IsLiteralOf}
 use Rattle.lk_grammar.specs.declared.literals.Token.TheVariants.{Word, Literal}
+use Rattle.lk_grammar.proofs.LiteralLaws.{tokens_lex}
+use Rattle.lk_grammar.proofs.TokenLaws.{tokens_spelled}
 use Rattle.lk_types.specs.declared.filter.Filter.{Filter}
-use Rattle.lk_filter_text.specs.Characters.{plain_form, goes_on, begins_mark}
+use Rattle.lk_filter_text.specs.Characters.{plain_form, character_length, goes_on, begins_mark}
 use Rattle.lk_filter_text.specs.declared.words.TextWord.{TextWord}
 use Rattle.lk_filter_text.specs.declared.words.TextWord.TheVariants as word
-use Rattle.lk_filter_text.specs.Texts.{letters_of, TextToken, text_tokens, text_filter, read_all, IsTextFilter}
+use Rattle.lk_filter_text.specs.Texts.{letters_of, TextToken, text_tokens, text_filter, IsTextFilter}
+use Rattle.lk_filter_text.specs.TextReading.{read_all}
 use Rattle.lk_filter_text.proofs.CharacterLaws.{character_reader}
 use Rattle.lk_filter_text.proofs.TextReadingLaws.{all_read, all_found}
 use Rattle.lk_grammar.proofs.ReadingLaws.{of_each, none_some, some_is, map_before}
@@ -92,3 +95,13 @@ texts_are_read tokens text every found e f h =
 
 pub no_texts : (text : List ℕ) → ((others : List TextToken) → AreClear (IsClearToken [] letters_of plain_form goes_on begins_mark table) others → IsText (tokens_form [] (token_form letters_of) others) text → None ≡ Some others) → (f : Filter) → IsTextFilter f text → None ≡ Some f
 no_texts text every f h = absurd (none_some (every (text_tokens h.0) (all_clear (text_tokens h.0) h.1.characters) h.1.spelled))
+
+-- ---- a text spells one filter
+
+taken_off : (text : List ℕ) (tokens : List TextToken) → AreClear (IsClearToken [] letters_of plain_form goes_on begins_mark table) tokens → IsText (tokens_form [] (token_form letters_of) tokens) text → tokens_of [] (first_of letters_of character_length table) text ≡ Some tokens
+taken_off text tokens clear spelled = tokens_spelled (tokens_lex [] letters_of character_reader table) tokens text text clear spelled (omega arith)
+
+pub one_text_filter : (text : List ℕ) (f g : Filter) → IsTextFilter f text → IsTextFilter g text → f ≡ g
+one_text_filter text f g h k =
+    let off = taken_off text (text_tokens h.0) (all_clear (text_tokens h.0) h.1.characters) h.1.spelled in
+    some_is f g (texts_are_read (text_tokens h.0) text (λ others clear spelled. sym off ∙ taken_off text others clear spelled) (Some f) (sym (ap (option_map text_filter) (all_read h.0 h.1.are_items) ∙ ap Some h.2)) g k)

@@ -1,6 +1,7 @@
 -- Spaces around tokens.
 use Rattle.std.proofs.Common.{◌≡◌, true, false, List, [], ◌∷◌, ◌++◌, refl, ap, ◌∙◌}
-use Rattle.lk_filter_text.specs.Texts.{TextToken, is_space, with_front, without_end}
+use Rattle.lk_filter_text.specs.Texts.{TextToken, is_space}
+use Rattle.lk_filter_text.specs.TextReading.{with_front, without_end}
 
 -- a space at the end goes, and any other token stays
 pub drops_last : (tokens : List TextToken) (t : TextToken) → is_space t ≡ true → without_end (tokens ++ t ∷ []) ≡ without_end tokens

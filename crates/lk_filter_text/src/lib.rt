@@ -9,6 +9,3 @@ mod words;
 
 pub use place::judge_texts;
 pub use reading::read_texts;
-
-#[cfg(test)]
-mod tests;

@@ -2,7 +2,8 @@ ghost use Rattle.std.specs.Prelude.{◌≡◌, IfOk};
 ghost use Rattle.lk_grammar.specs.Forms.{IsText, byte, seq, either, many};
 ghost use Rattle.lk_grammar.specs.Places.{Judges};
 ghost use Rattle.lk_filter_text.specs.Characters.{later, long_character, letter_byte, letter_form};
-ghost use Rattle.lk_filter_text.specs.Texts.{IsTexts, blanks, mark_form, first_form, solid_form, pattern_form, item_form, further_form, text_form};
+ghost use Rattle.lk_filter_text.specs.Texts.{IsTexts};
+ghost use Rattle.lk_filter_text.specs.TextReading.{blanks, mark_form, first_form, solid_form, pattern_form, item_form, further_form, text_form};
 
 use lk_grammar::{Form, judge};
 use lk_val::NoMemory;
@@ -15,14 +16,14 @@ pub fn judge_texts(alloc: Global, text: &[u8]) -> Result<Option<usize>, NoMemory
     judge_text_form(alloc, text)
 }
 
-#[tactic(auto, unfolding(crate::specs::Texts::text_form))]
+#[tactic(auto, unfolding(crate::specs::TextReading::text_form))]
 fn judge_text_form(alloc: Global, text: &[u8]) -> Result<Option<usize>, NoMemory>
     ensures { IfOk result (Judges (IsText text_form) text.now) }
 {
     judge(alloc, &text_form(alloc)?, text)
 }
 
-#[tactic(auto, unfolding(crate::specs::Texts::text_form))]
+#[tactic(auto, unfolding(crate::specs::TextReading::text_form))]
 fn text_form(alloc: Global) -> Result<Form, NoMemory>
     ensures { IfOk result (λ form. form ≡ text_form) }
 {

@@ -1,5 +1,6 @@
 ghost use Rattle.std.specs.Prelude.{◌≡◌, ◌++◌, ◌∷◌, [], if◌then◌else◌, Some, OnOk, List, IfOk, IfSome, option_map, map};
-ghost use Rattle.lk_filter_text.specs.Texts.{IsTextFilter, text_filter, read_all, are_spaces, parts_left, before_comma, behind_comma, read_part, solid_part, without_front, without_end, is_space, is_minus, is_comma, is_character};
+ghost use Rattle.lk_filter_text.specs.Texts.{IsTextFilter, text_filter, is_space, is_minus, is_comma, is_character};
+ghost use Rattle.lk_filter_text.specs.TextReading.{read_all, are_spaces, parts_left, before_comma, behind_comma, read_part, solid_part, without_front, without_end};
 ghost use Rattle.lk_types.specs.declared.filter.Filter.{Filter};
 
 use crate::characters::Characters;

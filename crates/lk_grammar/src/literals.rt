@@ -12,7 +12,9 @@ use std::alloc::Global;
 /// A word of a table, or a literal as it is written.
 #[derive(Debug, Drop)]
 pub enum Token<W> {
+    /// A word of the table.
     Word(W),
+    /// A literal, by its bytes.
     Literal(Bytes),
 }
 

@@ -13,6 +13,7 @@ pub trait Word: Copy {
 
     ghost letters_of: { Self → List ℕ };
 
+    /// The letters of the word; a small one stands for either case.
     fn letters(&self) -> &'static [u8]
         ensures { result.now ≡ letters_of self.now };
 }

@@ -1,12 +1,11 @@
 use crate::answer::Answer;
-use crate::fault::CaseFault;
 use crate::forms::{judge_form, judge_in_brackets};
 use crate::lookml::{print_again, print_apart, print_text, show_names};
 use crate::signs::read_signs;
 use crate::task::Task;
 use crate::trees::print_made;
 use crate::utf8::owed_behind;
-use crate::written::written_pieces;
+use case_lines::{CaseFault, written};
 use std::alloc::Global;
 
 /// The answer of a line: its first field says what is done with the text of the fields behind it.
@@ -16,7 +15,7 @@ pub fn answer_line(alloc: Global, line: &str) -> Result<Answer<'_>, CaseFault> {
     }
     let (task, fields) = line.split_once(" | ").ok_or(CaseFault::NoSuchCase)?;
     let task = Task::of(task)?;
-    let text = written_pieces(alloc, fields)?;
+    let text = written(alloc, fields)?;
     answer_of(alloc, task, text.as_slice())
 }
 

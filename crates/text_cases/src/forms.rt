@@ -1,7 +1,7 @@
 // Grammars as values, and where texts stop being of one.
 
 use crate::answer::Answer;
-use crate::fault::CaseFault;
+use case_lines::CaseFault;
 use lk_grammar::{Form, judge, judge_nested};
 use lk_val::NoMemory;
 use std::alloc::Global;

@@ -1,5 +1,5 @@
 use crate::answer::Answer;
-use crate::fault::CaseFault;
+use case_lines::CaseFault;
 use lk_read::{Entries, Entry, Item, Node, ReadFault, Tree, print_tree, read_file};
 use lk_val::{Bytes, Text};
 use std::alloc::Global;

@@ -3,14 +3,12 @@
 
 mod answer;
 mod case;
-mod fault;
 mod forms;
 mod lookml;
 mod signs;
 mod task;
 mod trees;
 mod utf8;
-mod written;
 
 use case::answer_line;
 use std::io;

@@ -1,5 +1,5 @@
 use crate::answer::Answer;
-use crate::fault::CaseFault;
+use case_lines::CaseFault;
 use lk_grammar::{Word, read_words};
 use lk_val::{Bytes, Text};
 use std::alloc::Global;

@@ -1,4 +1,4 @@
-use crate::fault::CaseFault;
+use case_lines::CaseFault;
 
 /// What is done with a text.
 #[derive(Clone, Copy)]

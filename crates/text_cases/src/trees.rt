@@ -1,8 +1,8 @@
 // Trees that no text spells as they stand here: they are made by hand, and printed.
 
 use crate::answer::Answer;
-use crate::fault::CaseFault;
 use crate::lookml::shown;
+use case_lines::CaseFault;
 use lk_read::{Entries, Entry, Item, Node, Tree, print_tree};
 use lk_val::Text;
 use std::alloc::Global;

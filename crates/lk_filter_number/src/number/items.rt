@@ -24,7 +24,14 @@ pub(crate) enum Order {
     AtLeast,
 }
 
-/// A range of numbers, as it is written. A bracket is true where it is square.
+/// A bracket of an interval: the number at a square one belongs to it.
+#[derive(Clone, Copy, Debug, PartialEq, Eq)]
+pub(crate) enum Bracket {
+    Square,
+    Round,
+}
+
+/// A range of numbers, as it is written.
 #[derive(Debug, Drop)]
 pub(crate) enum NumberRange {
     Is(Bytes),
@@ -32,22 +39,36 @@ pub(crate) enum NumberRange {
     UpTo(Bytes),
     Between(Bytes, Bytes),
     Compare(Compared, Items<Compared>),
-    Interval(bool, WrittenEnd, WrittenEnd, bool),
+    Interval(Bracket, WrittenEnd, WrittenEnd, Bracket),
 }
 
-/// An item of a filter of numbers: a range or `NULL`, with `NOT` before it or without; or a number with `!=` or, if
-/// that is false, `<>` before it.
+/// How a number that is left out is marked: by `<>` or by `!=`.
+#[derive(Clone, Copy, Debug, PartialEq, Eq)]
+pub(crate) enum UnlikeSign {
+    Angles,
+    Exclamation,
+}
+
+/// An item of a filter of numbers: a range or `NULL`, with `NOT` before it where that is true; or a number that is
+/// left out.
 #[derive(Debug, Drop)]
 pub(crate) enum NumberItem {
     Range(bool, NumberRange),
     Null(bool),
-    Unlike(bool, Bytes),
+    Unlike(UnlikeSign, Bytes),
 }
 
-/// A further item, with `OR` or, if that is false, a comma before it.
+/// What stands between two items: a comma or `OR`.
+#[derive(Clone, Copy, Debug, PartialEq, Eq)]
+pub(crate) enum Separator {
+    Comma,
+    Or,
+}
+
+/// A further item, with what stands before it.
 #[derive(Debug, Drop)]
 pub(crate) struct FurtherItem {
-    pub(crate) with_or: bool,
+    pub(crate) separator: Separator,
     pub(crate) item: NumberItem,
 }
 

@@ -1,9 +1,10 @@
 ghost use Rattle.std.specs.Prelude.{◌≡◌, ◌≤◌, ◌∷◌, [], false, IfOk, length};
 ghost use Rattle.lk_grammar.specs.Forms.{IsText, seq, either, many, optional};
 ghost use Rattle.lk_grammar.specs.Places.{Judges};
-ghost use Rattle.lk_filter_number.specs.Numbers.{IsNumbers, IsNumbersPlace, any_word, written_number, order_form, compared_form, comparisons_form, from_form, up_to_form, end_form, interval_form, range_form, item_form, further_form, number_form, is_number_byte, is_unread, unread_from, before_place};
+ghost use Rattle.lk_filter_number.specs.Numbers.{IsNumbers, IsNumbersPlace, is_number_byte, is_unread};
+ghost use Rattle.lk_filter_number.specs.NumberReading.{any_word, written_number, order_form, compared_form, comparisons_form, from_form, up_to_form, end_form, interval_form, range_form, item_form, further_form, number_form, unread_from, before_place};
 
-use crate::number::tests_of::num_at;
+use crate::number::meaning::num_at;
 use lk_grammar::{Form, Literals, Numbers, judge, listed, number};
 use lk_val::NoMemory;
 use std::alloc::Global;
@@ -60,14 +61,14 @@ fn judge_numbers(alloc: Global, text: &[u8]) -> Result<Option<usize>, NoMemory>
     judge_number_form(alloc, text)
 }
 
-#[tactic(auto, unfolding(crate::specs::Numbers::number_form))]
+#[tactic(auto, unfolding(crate::specs::NumberReading::number_form))]
 fn judge_number_form(alloc: Global, text: &[u8]) -> Result<Option<usize>, NoMemory>
     ensures { IfOk result (Judges (IsText number_form) text.now) }
 {
     judge(alloc, &number_form(alloc)?, text)
 }
 
-#[tactic(auto, unfolding(crate::specs::Numbers::number_form))]
+#[tactic(auto, unfolding(crate::specs::NumberReading::number_form))]
 fn number_form(alloc: Global) -> Result<Form, NoMemory>
     ensures { IfOk result (λ form. form ≡ number_form) }
 {

@@ -1,12 +1,14 @@
 ghost use Rattle.std.specs.Prelude.{◌≡◌, ◌∷◌, List, Some, IfOk, IfSome, option_map};
 ghost use Rattle.std.specs.Option.{option_and_then};
-ghost use Rattle.lk_filter_number.specs.Numbers.{IsNumberFilter, NumberToken, number_filter, behind_word, first_number, order_of, first_order, first_compared, and_compared, further_compared, range_from_number, range_up_to, range_compared, one_word, first_end, interval_end, range_interval, range_of, tested, differing, item_of, further_item, further_from, items_of, is_same_word};
+ghost use Rattle.lk_filter_number.specs.Numbers.{IsNumberFilter, NumberToken, number_filter};
+ghost use Rattle.lk_filter_number.specs.NumberReading.{behind_word, first_number, order_of, first_order, first_compared, and_compared, further_compared, range_from_number, range_up_to, range_compared, one_word, first_end, interval_end, range_interval, range_of, tested, differing, item_of, further_item, further_from, items_of, is_same_word};
 ghost use Rattle.lk_types.specs.declared.filter.Filter.{Filter};
 
 use crate::number::items::{
-    Compared, FurtherItem, NumberItem, NumberItems, NumberRange, Order, WrittenEnd,
+    Bracket, Compared, FurtherItem, NumberItem, NumberItems, NumberRange, Order, Separator,
+    UnlikeSign, WrittenEnd,
 };
-use crate::number::tests_of::number_filter;
+use crate::number::meaning::number_filter;
 use crate::number::words::{NUMBER_WORDS, NumberWord};
 use lk_grammar::{Numbers, Token, read_words_and_literals};
 use lk_types::Filter;
@@ -82,12 +84,14 @@ fn further_item<'a>(
 ) -> Result<Option<(FurtherItem, &'a [NumberToken])>, NoMemory>
     ensures { IfOk result (λ found. option_map (λ x. (x.0, x.1.now)) found ≡ further_item tokens.now) }
 {
-    let Some((with_or, rest)) = one_word(NumberWord::Or, NumberWord::Comma, tokens) else {
+    let or = (NumberWord::Or, Separator::Or);
+    let comma = (NumberWord::Comma, Separator::Comma);
+    let Some((separator, rest)) = one_word(or, comma, tokens) else {
         return Ok(None);
     };
     match item_of(alloc, rest)? {
         None => Ok(None),
-        Some((item, behind)) => Ok(Some((FurtherItem { with_or, item }, behind))),
+        Some((item, behind)) => Ok(Some((FurtherItem { separator, item }, behind))),
     }
 }
 
@@ -130,12 +134,14 @@ fn differing<'a>(
 ) -> Result<Option<(NumberItem, &'a [NumberToken])>, NoMemory>
     ensures { IfOk result (λ found. option_map (λ x. (x.0, x.1.now)) found ≡ differing tokens.now) }
 {
-    let Some((unequal, rest)) = one_word(NumberWord::Unequal, NumberWord::Unlike, tokens) else {
+    let exclamation = (NumberWord::Unequal, UnlikeSign::Exclamation);
+    let angles = (NumberWord::Unlike, UnlikeSign::Angles);
+    let Some((sign, rest)) = one_word(exclamation, angles, tokens) else {
         return Ok(None);
     };
     match first_number(alloc, rest)? {
         None => Ok(None),
-        Some((number, behind)) => Ok(Some((NumberItem::Unlike(unequal, number), behind))),
+        Some((number, behind)) => Ok(Some((NumberItem::Unlike(sign, number), behind))),
     }
 }
 
@@ -258,7 +264,9 @@ fn range_interval<'a>(
 ) -> Result<Option<(NumberRange, &'a [NumberToken])>, NoMemory>
     ensures { IfOk result (λ found. option_map (λ x. (x.0, x.1.now)) found ≡ range_interval tokens.now) }
 {
-    let Some((open, rest)) = one_word(NumberWord::OpenSquare, NumberWord::OpenRound, tokens) else {
+    let square = (NumberWord::OpenSquare, Bracket::Square);
+    let round = (NumberWord::OpenRound, Bracket::Round);
+    let Some((open, rest)) = one_word(square, round, tokens) else {
         return Ok(None);
     };
     match first_end(alloc, rest)? {
@@ -269,11 +277,11 @@ fn range_interval<'a>(
 
 fn interval_end<'a>(
     alloc: Global,
-    square: bool,
+    bracket: Bracket,
     low: WrittenEnd,
     tokens: &'a [NumberToken],
 ) -> Result<Option<(NumberRange, &'a [NumberToken])>, NoMemory>
-    ensures { IfOk result (λ found. option_map (λ x. (x.0, x.1.now)) found ≡ interval_end square low tokens.now) }
+    ensures { IfOk result (λ found. option_map (λ x. (x.0, x.1.now)) found ≡ interval_end bracket low tokens.now) }
 {
     let Some(rest) = behind_word(NumberWord::Comma, tokens) else {
         return Ok(None);
@@ -281,10 +289,12 @@ fn interval_end<'a>(
     let Some((high, behind)) = first_end(alloc, rest)? else {
         return Ok(None);
     };
-    match one_word(NumberWord::CloseSquare, NumberWord::CloseRound, behind) {
+    let square = (NumberWord::CloseSquare, Bracket::Square);
+    let round = (NumberWord::CloseRound, Bracket::Round);
+    match one_word(square, round, behind) {
         None => Ok(None),
         Some((close, further)) => Ok(Some((
-            NumberRange::Interval(square, low, high, close),
+            NumberRange::Interval(bracket, low, high, close),
             further,
         ))),
     }
@@ -359,20 +369,20 @@ fn first_number<'a>(
     }
 }
 
-/// One of two words: true for the first.
-fn one_word(
-    one: NumberWord,
-    other: NumberWord,
+/// What one of two words stands for, where the tokens begin with it, and what is behind it.
+fn one_word<T: Copy>(
+    one: (NumberWord, T),
+    other: (NumberWord, T),
     tokens: &[NumberToken],
-) -> Option<(bool, &[NumberToken])>
-    ensures { option_map (λ x. (x.0, x.1.now)) result ≡ one_word one other tokens.now }
+) -> Option<(T, &[NumberToken])>
+    ensures { option_map (λ x. (x.0, x.1.now)) result ≡ one_word one.0 one.1 other.0 other.1 tokens.now }
 {
-    if let Some(rest) = behind_word(one, tokens) {
-        return Some((true, rest));
+    if let Some(rest) = behind_word(one.0, tokens) {
+        return Some((one.1, rest));
     }
-    match behind_word(other, tokens) {
+    match behind_word(other.0, tokens) {
         None => None,
-        Some(rest) => Some((false, rest)),
+        Some(rest) => Some((other.1, rest)),
     }
 }
 

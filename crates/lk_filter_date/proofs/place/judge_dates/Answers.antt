@@ -1,7 +1,8 @@
 use Rattle.std.proofs.lemmas.Result.{IfOk-weaker}
 use Rattle.lk_grammar.specs.Forms.{IsText}
 use Rattle.lk_grammar.specs.Places.{Judges}
-use Rattle.lk_filter_date.specs.Dates.{IsDates, dates_form}
+use Rattle.lk_filter_date.specs.Dates.{IsDates}
+use Rattle.lk_filter_date.specs.DateReading.{dates_form}
 use Rattle.lk_filter_date.proofs.DateFormLaws.{dates_judged}
 use Rattle.lk_filter_date.proofs.place.judge_dates.Goals as goal
 

@@ -1,5 +1,5 @@
 use Rattle.std.proofs.Common.{◌≡◌, ◌∷◌, ◌++◌, drop, option_map}
-use Rattle.lk_filter_date.specs.Dates.{further_from}
+use Rattle.lk_filter_date.specs.DateReading.{further_from}
 use Rattle.lk_filter_date.proofs.reading.further_items.Given as goal
 
 -- the items so far, and those of the tokens that are left, are those of all tokens behind the first item

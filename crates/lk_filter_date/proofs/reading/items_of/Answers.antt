@@ -1,6 +1,6 @@
 use Rattle.std.proofs.Common.{◌≡◌, ◌∷◌, option_map, sym, ◌∙◌}
 use Rattle.std.proofs.lemmas.Result.{IfOk-weaker}
-use Rattle.lk_filter_date.specs.Dates.{further_from, items_of}
+use Rattle.lk_filter_date.specs.DateReading.{further_from, items_of}
 use Rattle.lk_filter_date.proofs.DateReadingLaws.{items_behind}
 use Rattle.lk_filter_date.proofs.reading.items_of.Goals as goal
 

@@ -4,7 +4,8 @@ use Rattle.std.proofs.lemmas.Result.{IfOk-weaker}
 use Rattle.lk_types.specs.declared.filter.Filter.{Filter}
 use Rattle.lk_grammar.specs.Numbers.{begins_no_digit}
 use Rattle.lk_filter_date.specs.DateTexts.{date_literal, is_of_date}
-use Rattle.lk_filter_date.specs.Dates.{IsDateFilter, date_filter, items_of}
+use Rattle.lk_filter_date.specs.Dates.{IsDateFilter, date_filter}
+use Rattle.lk_filter_date.specs.DateReading.{items_of}
 use Rattle.lk_filter_date.proofs.DateLiteralLaws.{date_reader}
 use Rattle.lk_filter_date.proofs.DateTokenLaws.{no_dates, dates_are_spelled, dates_are_read}
 use Rattle.lk_filter_date.proofs.reading.read_dates.Goals as goal

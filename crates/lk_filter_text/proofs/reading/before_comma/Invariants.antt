@@ -1,5 +1,5 @@
 use Rattle.std.proofs.Common.{◌≡◌, ◌++◌, drop, take}
-use Rattle.lk_filter_text.specs.Texts.{before_comma}
+use Rattle.lk_filter_text.specs.TextReading.{before_comma}
 use Rattle.lk_filter_text.proofs.reading.before_comma.Given as goal
 
 -- no token so far is a comma

@@ -1,5 +1,5 @@
 use Rattle.std.proofs.Common.{◌≡◌, length}
-use Rattle.lk_filter_text.specs.Texts.{behind_comma}
+use Rattle.lk_filter_text.specs.TextReading.{behind_comma}
 use Rattle.lk_filter_text.proofs.reading.behind_comma.Given as goal
 
 -- what is behind the first comma of what is left is behind the first one

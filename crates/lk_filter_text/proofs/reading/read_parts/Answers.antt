@@ -1,5 +1,5 @@
 use Rattle.std.proofs.Common.{◌≡◌, None, Some, option_map, sym, ap, ◌∙◌}
-use Rattle.lk_filter_text.specs.Texts.{with_part, parts_left, behind_comma, read_part}
+use Rattle.lk_filter_text.specs.TextReading.{with_part, parts_left, behind_comma, read_part}
 use Rattle.lk_filter_text.proofs.TextPartLaws.{left_is, less_left, one_more, none_left, grown_filter}
 use Rattle.lk_filter_text.proofs.reading.read_parts.Goals as goal
 

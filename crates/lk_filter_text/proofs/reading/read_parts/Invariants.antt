@@ -1,5 +1,6 @@
 use Rattle.std.proofs.Common.{◌≡◌, Some, option_map}
-use Rattle.lk_filter_text.specs.Texts.{text_filter, parts_left}
+use Rattle.lk_filter_text.specs.Texts.{text_filter}
+use Rattle.lk_filter_text.specs.TextReading.{parts_left}
 use Rattle.lk_filter_text.proofs.TextPartLaws.{grown_filter, size_left}
 use Rattle.lk_filter_text.proofs.reading.read_parts.Given as goal
 

@@ -2,7 +2,8 @@ use Rattle.std.proofs.Common.{◌≡◌, Some, IfSome, option_map}
 use Rattle.std.proofs.lemmas.Result.{IfOk-weaker}
 use Rattle.lk_types.specs.declared.filter.Filter.{Filter}
 use Rattle.lk_filter_text.specs.Characters.{plain_form, goes_on, begins_mark}
-use Rattle.lk_filter_text.specs.Texts.{IsTextFilter, text_filter, read_all}
+use Rattle.lk_filter_text.specs.Texts.{IsTextFilter, text_filter}
+use Rattle.lk_filter_text.specs.TextReading.{read_all}
 use Rattle.lk_filter_text.proofs.CharacterLaws.{character_reader}
 use Rattle.lk_filter_text.proofs.TextTokenLaws.{no_texts, texts_are_spelled, texts_are_read}
 use Rattle.lk_filter_text.proofs.reading.read_texts.Goals as goal

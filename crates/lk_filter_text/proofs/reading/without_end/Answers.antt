@@ -1,5 +1,5 @@
 use Rattle.std.proofs.Common.{sym, ap, ◌∙◌}
-use Rattle.lk_filter_text.specs.Texts.{without_end}
+use Rattle.lk_filter_text.specs.TextReading.{without_end}
 use Rattle.lk_filter_text.proofs.TextTrimLaws.{drops_last, keeps_last}
 use Rattle.lk_filter_text.proofs.reading.without_end.Goals as goal
 

@@ -1,5 +1,5 @@
 use Rattle.std.proofs.Common.{◌≡◌, length}
-use Rattle.lk_filter_text.specs.Texts.{without_end}
+use Rattle.lk_filter_text.specs.TextReading.{without_end}
 use Rattle.lk_filter_text.proofs.reading.without_end.Given as goal
 
 -- what is left, without the spaces at the end, is all without them

@@ -1,5 +1,5 @@
 use Rattle.std.proofs.Common.{◌≡◌, length}
-use Rattle.lk_filter_text.specs.Texts.{without_front}
+use Rattle.lk_filter_text.specs.TextReading.{without_front}
 use Rattle.lk_filter_text.proofs.reading.without_front.Given as goal
 
 -- what is left, without the spaces in front, is all without them

@@ -1,5 +1,5 @@
 use Rattle.std.proofs.Common.{min, ap, sym, ◌∙◌}
-use Rattle.lk_filter_number.specs.Numbers.{before_place}
+use Rattle.lk_filter_number.specs.NumberReading.{before_place}
 use Rattle.lk_filter_number.proofs.UnreadLaws.{numbers_place}
 use Rattle.lk_filter_number.proofs.number.place.place_of_numbers.Goals as goal
 

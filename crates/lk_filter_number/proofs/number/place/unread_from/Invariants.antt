@@ -1,5 +1,5 @@
 use Rattle.std.proofs.Common.{◌≡◌, ◌+◌, false, length, option_map}
-use Rattle.lk_filter_number.specs.Numbers.{unread_from}
+use Rattle.lk_filter_number.specs.NumberReading.{unread_from}
 use Rattle.lk_filter_number.proofs.number.place.unread_from.Given as goal
 
 -- the bytes so far are before each place that is left

@@ -1,5 +1,5 @@
 use Rattle.std.proofs.Common.{◌≡◌, ◌++◌, length}
-use Rattle.lk_filter_number.specs.Numbers.{further_compared}
+use Rattle.lk_filter_number.specs.NumberReading.{further_compared}
 use Rattle.lk_filter_number.proofs.number.reading.further_compared.Given as goal
 
 -- the comparisons so far, and those that are left, are those of all tokens

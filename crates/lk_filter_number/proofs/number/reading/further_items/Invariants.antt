@@ -1,5 +1,5 @@
 use Rattle.std.proofs.Common.{◌≡◌, ◌++◌, drop, option_map}
-use Rattle.lk_filter_number.specs.Numbers.{further_from}
+use Rattle.lk_filter_number.specs.NumberReading.{further_from}
 use Rattle.lk_filter_number.proofs.number.reading.further_items.Given as goal
 
 -- the items so far, and those of the tokens that are left, are those of all tokens

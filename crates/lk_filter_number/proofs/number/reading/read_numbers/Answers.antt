@@ -4,7 +4,8 @@ use Rattle.std.proofs.lemmas.Result.{IfOk-weaker}
 use Rattle.lk_types.specs.declared.filter.Filter.{Filter}
 use Rattle.lk_grammar.specs.Numbers.{number, is_of_number, begins_no_number}
 use Rattle.lk_grammar.proofs.NumberLaws.{number_reader}
-use Rattle.lk_filter_number.specs.Numbers.{IsNumberFilter, number_filter, items_of}
+use Rattle.lk_filter_number.specs.Numbers.{IsNumberFilter, number_filter}
+use Rattle.lk_filter_number.specs.NumberReading.{items_of}
 use Rattle.lk_filter_number.proofs.NumberTokenLaws.{no_numbers, numbers_are_spelled, numbers_are_read}
 use Rattle.lk_filter_number.proofs.number.reading.read_numbers.Goals as goal
 
