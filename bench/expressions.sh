@@ -1,14 +1,14 @@
 #!/bin/sh
 # Times `eval` of `${a} * 2 + ${b} > 100 AND ${s} LIKE '%x%'` on 1,000,000 rows, and a plain Rust program that evaluates the
 # same tree. A measurement, not a test: it builds a program in a folder of its own, which proves it first.
-crates='lk_val lk_types lk_grammar lk_utf8 lk_time lk_expr_text lk_expr'
-uses='lk_val lk_types lk_expr'
+crates='lk_val lk_types lk_time lk_eval'
+uses='lk_val lk_types lk_eval'
 . "$(dirname "$0")/workspace.sh"
 cat >"$work/crates/timing/src/main.rt" <<'END'
 //! Times `eval`.
 #![tactic(auto)]
 
-use lk_expr::{are_literals_dated, eval, is_row_dated};
+use lk_eval::{are_literals_dated, eval, is_row_dated};
 use lk_types::{Arithmetic, Comparison, Expr, Joined, Node, Piece};
 use lk_val::{Items, NoMemory, Num, Text, Value};
 use std::alloc::Global;
@@ -92,7 +92,7 @@ fn main(rt: HostRuntime) -> io::Result<()> {
             }
         }
         let took = begun.elapsed(&rt)?.as_micros();
-        println!(rt; "lk_expr: {count} rows, {took} microseconds")?;
+        println!(rt; "lk_eval: {count} rows, {took} microseconds")?;
     }
     Ok(())
 }
