@@ -9,7 +9,7 @@ mod wrong;
 use crate::line::{bytes_of, on_one_line, words_of};
 use crate::project::Asked;
 use crate::wrong::Wrong;
-use lk_io::{MemSink, MemSource};
+use lk_io::{MemFiles, MemSink, MemSource};
 use lk_project::read_view;
 use lk_serve::run;
 use lk_val::{Bytes, Items, Text, as_text};
@@ -79,8 +79,22 @@ fn run_over(alloc: Global, asked: Asked) -> Result<Text, Wrong> {
     let (mut files, body) = asked.into_files(alloc)?;
     let mut input = MemSource::new(body, Items::new(alloc));
     let mut out = MemSink::new(alloc, 4096, Items::new(alloc))?;
-    let status = run(alloc, words.as_slice(), &mut files, &mut input, &mut out);
-    let written = on_one_line(alloc, as_text(out.held()).ok_or(Wrong::Case)?)?;
-    let written = written.as_str();
-    Ok(Text::from_string(format!(in alloc; "{status} {written}")?))
+    let status = status_of(alloc, words.as_slice(), &mut files, &mut input, &mut out);
+    show(alloc, status, out.held())
+}
+
+fn status_of(
+    alloc: Global,
+    words: &[Text],
+    files: &mut MemFiles,
+    input: &mut MemSource,
+    out: &mut MemSink,
+) -> u8 {
+    run(alloc, words, files, input, out)
+}
+
+fn show(alloc: Global, status: u8, written: &[u8]) -> Result<Text, Wrong> {
+    let line = on_one_line(alloc, as_text(written).ok_or(Wrong::Case)?)?;
+    let line = line.as_str();
+    Ok(Text::from_string(format!(in alloc; "{status} {line}")?))
 }
