@@ -6,10 +6,12 @@ use Rattle.std.proofs.lemmas.Bool.{false≢true}
 use Rattle.lk_types.specs.Formula.{Formula}
 use Rattle.lk_types.specs.Tables.{Rows}
 use Rattle.lk_types.specs.Dates.{is_dated, is_row_dated, are_literals_dated}
-use Rattle.lk_types.specs.Kinds.{kinds_of, has_kind}
+use Rattle.lk_types.specs.Kinds.{kinds_of, has_kind, is_empty, is_same_kind}
+use Rattle.lk_types.specs.declared.explore.Shape.{Shape}
+use Rattle.lk_types.specs.declared.explore.Shape.TheVariants as shape
 use Rattle.lk_semantics.specs.DatedRows.{are_rows_dated, are_sources_dated, is_condition_dated}
 use Rattle.lk_semantics.specs.Reading.{leaves_of}
-use Rattle.lk_semantics.specs.Resolved.{IsResolved, IsResolvedExplore, is_typed_explore, has_typed_key, is_typed_join, is_typed_field, is_typed_measure, has_operands, has_own_kind, is_no_formula, is_some_known, is_some_typed, is_typed, is_made_of, has_tiers}
+use Rattle.lk_semantics.specs.Resolved.{IsResolved, IsResolvedExplore, is_typed_explore, has_typed_key, is_typed_join, is_typed_field, is_typed_measure, has_operands, has_own_kind, is_no_formula, is_some_known, is_some_typed, is_typed, is_settled, is_some_settled, settled_kind, is_type_kind, is_time_kind, has_shape_kind, names_numbers, has_tiers}
 use Rattle.lk_types.specs.declared.schema.Kind.{Kind}
 use Rattle.lk_types.specs.declared.schema.Kind.TheVariants as kind
 use Rattle.lk_types.specs.declared.kind_set.Leaves.{Leaves}
@@ -75,6 +77,10 @@ some_typed : (leaves : Leaves) (k : Kind) (e : Option Formula) → is_some_typed
 some_typed leaves k None h = refl
 some_typed leaves k (Some e) h = second (has_kind k (kinds_of leaves e)) (are_literals_dated e) h
 
+some_settled : (leaves : Leaves) (default k : Kind) (e : Option Formula) → is_some_settled leaves default k e ≡ true → is_condition_dated e ≡ true
+some_settled leaves default k None h = refl
+some_settled leaves default k (Some e) h = second (not (is_empty (kinds_of leaves e)) && is_same_kind k (settled_kind leaves default e)) (are_literals_dated e) h
+
 some_known : (leaves : Leaves) (e : Option Formula) → is_some_known leaves e ≡ true → is_condition_dated e ≡ true
 some_known leaves e h = some_kind (λ k. is_some_typed leaves k e) (is_condition_dated e) (λ k. some_typed leaves k e) (kind.Text ∷ kind.Number ∷ kind.Truth ∷ kind.Day ∷ kind.Moment ∷ []) h
 
@@ -83,13 +89,13 @@ no_formula None h = refl
 no_formula (Some e) h = absurd (false≢true h)
 
 operands : (leaves : Leaves) (o : Op) (k : Kind) (v key : Option Formula) → has_operands leaves o k v key ≡ true → is_condition_dated v ≡ true
-operands leaves op.Count k v key h = no_formula v h
-operands leaves op.Number k v key h = no_formula v h
-operands leaves op.CountDistinct k v key h = some_known leaves v h
-operands leaves op.Min k v key h = some_typed leaves k v h
-operands leaves op.Max k v key h = some_typed leaves k v h
-operands leaves op.Sum k v key h = some_typed leaves kind.Number v h
-operands leaves op.Average k v key h = some_typed leaves kind.Number v h
+operands leaves op.Count k v key h = no_formula v (first (is_no_formula v) (is_no_formula key) h)
+operands leaves op.Number k v key h = no_formula v (first (is_no_formula v) (is_no_formula key) h)
+operands leaves op.CountDistinct k v key h = some_known leaves v (first (is_some_known leaves v) (is_no_formula key) h)
+operands leaves op.Min k v key h = some_settled leaves kind.Text k v (first (is_some_settled leaves kind.Text k v) (is_no_formula key) h)
+operands leaves op.Max k v key h = some_settled leaves kind.Text k v (first (is_some_settled leaves kind.Text k v) (is_no_formula key) h)
+operands leaves op.Sum k v key h = some_typed leaves kind.Number v (first (is_some_typed leaves kind.Number v) (is_no_formula key) h)
+operands leaves op.Average k v key h = some_typed leaves kind.Number v (first (is_some_typed leaves kind.Number v) (is_no_formula key) h)
 operands leaves op.SumDistinct k v key h = some_typed leaves kind.Number v (first (is_some_typed leaves kind.Number v) (is_some_known leaves key) h)
 operands leaves op.AverageDistinct k v key h = some_typed leaves kind.Number v (first (is_some_typed leaves kind.Number v) (is_some_known leaves key) h)
 
@@ -97,18 +103,23 @@ implied : {A : Type 0} (t u : A → Bool) → ((x : A) → t x ≡ true → u x 
 implied t u f [] h = refl
 implied t u f (x ∷ xs) h = both (u x) (list_all u xs) (f x (first (t x) (list_all t xs) h)) (implied t u f xs (second (t x) (list_all t xs) h))
 
+shape-typed : (leaves : Leaves) (s : Shape) (k : Kind) (e : Formula) → has_shape_kind leaves s k e ≡ true → are_literals_dated e ≡ true
+shape-typed leaves shape.Plain k e h = second (has_kind k (kinds_of leaves e)) (are_literals_dated e) (second (is_type_kind k) (is_typed leaves k e) h)
+shape-typed leaves (shape.Tier bounds) k e h = second (has_kind kind.Number (kinds_of leaves e)) (are_literals_dated e) (second (is_same_kind k kind.Number) (is_typed leaves kind.Number e) h)
+shape-typed leaves (shape.Frame group frame) k e h =
+    let base = settled_kind leaves kind.Moment e in
+    second (not (is_empty (kinds_of leaves e)) && is_same_kind base (settled_kind leaves kind.Moment e)) (are_literals_dated e)
+    (second (is_time_kind base) (is_settled leaves kind.Moment base e) (first (is_time_kind base && is_settled leaves kind.Moment base e) _ h))
+
 field-typed : (leaves : Leaves) (f : Field) → is_typed_field leaves f ≡ true → are_literals_dated f.expr ≡ true
-field-typed leaves f h =
-    some_kind (λ k. is_made_of f k && is_typed leaves k f.expr) (are_literals_dated f.expr)
-    (λ k typed. second (has_kind k (kinds_of leaves f.expr)) (are_literals_dated f.expr) (second (is_made_of f k) (is_typed leaves k f.expr) typed))
-    (kind.Text ∷ kind.Number ∷ kind.Truth ∷ kind.Day ∷ kind.Moment ∷ []) (second (has_tiers f.shape) _ h)
+field-typed leaves f h = shape-typed leaves f.shape f.kind f.expr (second (has_tiers f.shape) (has_shape_kind leaves f.shape f.kind f.expr) h)
 
 measure-typed : (leaves : Leaves) (n : Measure) → is_typed_measure leaves n ≡ true → is_condition_dated n.value ≡ true
 measure-typed leaves n h = operands leaves n.op n.kind n.value n.key (first (has_operands leaves n.op n.kind n.value n.key) _ (first (has_operands leaves n.op n.kind n.value n.key && has_own_kind n.op n.kind) _ h))
 
 explore-typed : (m : Model) (x : Explore) → is_typed_explore m x ≡ true → is_explore_dated x ≡ true
 explore-typed m x h =
-    let to_measures = first (list_all (has_typed_key (leaves_of m x)) x.parts && list_all (is_typed_join (leaves_of m x)) x.joins && list_all (is_typed_field (leaves_of m x)) x.fields && list_all (is_typed_measure (leaves_of m x)) x.measures) _ h in
+    let to_measures = first _ (list_all (names_numbers x) x.measures) (first (list_all (has_typed_key (leaves_of m x)) x.parts && list_all (is_typed_join (leaves_of m x)) x.joins && list_all (is_typed_field (leaves_of m x)) x.fields && list_all (is_typed_measure (leaves_of m x)) x.measures && list_all (names_numbers x) x.measures) _ h) in
     let to_fields = first (list_all (has_typed_key (leaves_of m x)) x.parts && list_all (is_typed_join (leaves_of m x)) x.joins && list_all (is_typed_field (leaves_of m x)) x.fields) (list_all (is_typed_measure (leaves_of m x)) x.measures) to_measures in
     both (list_all (λ f. are_literals_dated f.expr) x.fields) _
     (implied (is_typed_field (leaves_of m x)) (λ f. are_literals_dated f.expr) (field-typed (leaves_of m x)) x.fields (second (list_all (has_typed_key (leaves_of m x)) x.parts && list_all (is_typed_join (leaves_of m x)) x.joins) (list_all (is_typed_field (leaves_of m x)) x.fields) to_fields))

@@ -20,17 +20,20 @@ use Rattle.lk_types.specs.Calculation.{Calculation}
 use Rattle.lk_types.specs.Expressions.{value_of, value_of_num, has_number}
 use Rattle.lk_types.specs.Tables.{Cells, is_of_kind}
 use Rattle.lk_types.specs.Kinds.{HasKinds, is_same_kind}
+use Rattle.lk_types.specs.Shapes.{shaped, framed_kind}
+use Rattle.lk_types.specs.declared.explore.Shape.{Shape}
+use Rattle.lk_types.specs.declared.explore.Shape.TheVariants as shape
 use Rattle.lk_semantics.specs.Rows.{field_at, no_field, dim_value, tuple_of}
 use Rattle.lk_semantics.specs.Measures.{Entry, entry_at, no_entry, entries_of, values_of_entries, average_cell, total, known_count, pairs_of, least_of, greatest_of, measure_of, groups_of, group_row, group_rows}
 use Rattle.lk_semantics.specs.Answers.{measure_at, no_measure, optional_value, key_value, given_row, given_rows, ops_of, rows_grouped, first_each, or_parts, parts_of_measure, components_of, picked_measures, filtered, component_cell, frac_of_cell, calculated, cell_of_frac, or_calculated, cell_within, measure_cell, line_cells, line_of, lines_of, passes_having, line_cmp, dims_of, query_components}
 use Rattle.lk_semantics.specs.Derived.{value_of_cell}
 use Rattle.lk_semantics.specs.Reading.{pick_kind}
-use Rattle.lk_semantics.specs.Resolved.{is_typed, is_typed_field, is_typed_measure, is_made_of, has_tiers, has_operands, has_own_kind, is_calculated_rightly, has_calculation, is_number_type, is_some_typed}
+use Rattle.lk_semantics.specs.Resolved.{is_typed, is_settled, settled_kind, is_time_kind, is_type_kind, has_shape_kind, is_typed_field, is_typed_measure, has_tiers, has_operands, has_own_kind, is_calculated_rightly, has_calculation, is_some_settled, is_no_formula}
 use Rattle.lk_semantics.proofs.EveryLaws.{Every, both, first, second, every-filter, every-at, every-map}
 use Rattle.lk_derived.specs.FittingRows.{fits_cells}
 use Rattle.std.proofs.lemmas.List.{get_or-map, length-map}
 use Rattle.lk_derived.proofs.DatedAnswers.{every-set_of, every-enumerated, all_of}
-use Rattle.lk_derived.proofs.FittingJoins.{fits_row, has_kinds, typed-kind, same_kind, shaped_by}
+use Rattle.lk_derived.proofs.FittingJoins.{fits_row, has_kinds, typed-kind, settled-kind, same_kind, shaped_by}
 use Rattle.lk_types.specs.declared.schema.Kind.{Kind}
 use Rattle.lk_types.specs.declared.schema.Kind.TheVariants as kind
 use Rattle.lk_types.specs.declared.kind_set.Leaves.{Leaves}
@@ -49,18 +52,20 @@ use Rattle.lk_types.specs.declared.bound.Bound.{Bound}
 
 -- ---- dimensions
 
-some_kind : {A : Type 0} (p : A → Bool) (q : Bool) → ((k : A) → p k ≡ true → q ≡ true) → (ks : List A) → list_any p ks ≡ true → q ≡ true
-some_kind p q f [] h = absurd (false≢true h)
-some_kind p q f (k ∷ ks) h = elim (p k) as (λ b. p k ≡ b → (b || list_any p ks) ≡ true → q ≡ true) [ true ↦ λ pk _. f k pk | false ↦ λ _ later. some_kind p q f ks later ] refl h
+shape-kind : (leaves : Leaves) (row : Joined) → HasKinds leaves row → (s : Shape) (k : Kind) (e : Formula) → has_shape_kind leaves s k e ≡ true → is_of_kind k (shaped s k (value_of e row)) ≡ true
+shape-kind leaves row has shape.Plain k e h = shaped_by shape.Plain k k (value_of e row) refl (typed-kind leaves row has k e (second (is_type_kind k) (is_typed leaves k e) h))
+shape-kind leaves row has (shape.Tier bounds) k e h =
+    shaped_by (shape.Tier bounds) k kind.Number (value_of e row) (same_kind k kind.Number (first (is_same_kind k kind.Number) (is_typed leaves kind.Number e) h)) (typed-kind leaves row has kind.Number e (second (is_same_kind k kind.Number) (is_typed leaves kind.Number e) h))
+shape-kind leaves row has (shape.Frame group frame) k e h =
+    let base = settled_kind leaves kind.Moment e in
+    let front = first (is_time_kind base && is_settled leaves kind.Moment base e) (is_same_kind k (framed_kind frame base)) h in
+    shaped_by (shape.Frame group frame) k base (value_of e row) (same_kind k (framed_kind frame base) (second (is_time_kind base && is_settled leaves kind.Moment base e) (is_same_kind k (framed_kind frame base)) h))
+    (settled-kind leaves row has kind.Moment base e (second (is_time_kind base) (is_settled leaves kind.Moment base e) front))
 
 field-kind : (leaves : Leaves) (row : Joined) → HasKinds leaves row → (x : Explore) (f : ℕ) → is_typed_field leaves (field_at x f) ≡ true → is_of_kind (field_at x f).kind (dim_value x row f) ≡ true
 field-kind leaves row has x f h =
     let g = field_at x f in
-    some_kind (λ k. is_made_of g k && is_typed leaves k g.expr) (is_of_kind g.kind (dim_value x row f))
-    (λ k typed. shaped_by g.shape g.kind k (value_of g.expr row)
-    (same_kind g.kind _ (first (is_same_kind g.kind _) _ (first (is_made_of g k) (is_typed leaves k g.expr) typed)))
-    (typed-kind leaves row has k g.expr (second (is_made_of g k) (is_typed leaves k g.expr) typed)))
-    (kind.Text ∷ kind.Number ∷ kind.Truth ∷ kind.Day ∷ kind.Moment ∷ []) (second (has_tiers g.shape) _ h)
+    shape-kind leaves row has g.shape g.kind g.expr (second (has_tiers g.shape) (has_shape_kind leaves g.shape g.kind g.expr) h)
 
 -- ---- cells of measures
 
@@ -193,13 +198,13 @@ module _ (leaves : Leaves) (x : Explore) (fields : (f : ℕ) → is_typed_field 
   has_all n = let g = measure_at x n in first (has_operands leaves g.op g.kind g.value g.key) (has_own_kind g.op g.kind) (first (has_operands leaves g.op g.kind g.value g.key && has_own_kind g.op g.kind) (is_calculated_rightly g.op g.number) (measures n))
 
   -- what a row gives to a measure is of its kind
-  typed_value : (e : Option Formula) (k : Kind) (row : Joined) → fits_row leaves.kinds row ≡ true → is_some_typed leaves k e ≡ true → is_of_kind k (optional_value e row) ≡ true
+  typed_value : (e : Option Formula) (k : Kind) (row : Joined) → fits_row leaves.kinds row ≡ true → is_some_settled leaves kind.Text k e ≡ true → is_of_kind k (optional_value e row) ≡ true
   typed_value None k row r h = absurd (false≢true h)
-  typed_value (Some e) k row r h = typed-kind leaves row (has_kinds leaves row r) k e h
+  typed_value (Some e) k row r h = settled-kind leaves row (has_kinds leaves row r) kind.Text k e h
 
   entry_of : (o : Op) (k : Kind) (v key : Option Formula) (row : Joined) (place : ℕ) (given : KeyValue) → given.value ≡ optional_value v row → fits_row leaves.kinds row ≡ true → has_operands leaves o k v key ≡ true → is_entry_of o k (place, given) ≡ true
-  entry_of op.Min k v key row place given is r h = subst (λ u. is_of_kind k u ≡ true) (sym is) (typed_value v k row r h)
-  entry_of op.Max k v key row place given is r h = subst (λ u. is_of_kind k u ≡ true) (sym is) (typed_value v k row r h)
+  entry_of op.Min k v key row place given is r h = subst (λ u. is_of_kind k u ≡ true) (sym is) (typed_value v k row r (first (is_some_settled leaves kind.Text k v) (is_no_formula key) h))
+  entry_of op.Max k v key row place given is r h = subst (λ u. is_of_kind k u ≡ true) (sym is) (typed_value v k row r (first (is_some_settled leaves kind.Text k v) (is_no_formula key) h))
   entry_of op.Count k v key row place given is r h = refl
   entry_of op.CountDistinct k v key row place given is r h = refl
   entry_of op.Sum k v key row place given is r h = refl
@@ -281,13 +286,13 @@ module _ (leaves : Leaves) (x : Explore) (fields : (f : ℕ) → is_typed_field 
     tuple-fits row r [] = refl
     tuple-fits row r (f ∷ fs) = both (is_of_kind (field_at x f).kind (dim_value x row f)) _ (field-kind leaves row (has_kinds leaves row r) x f (fields f)) (tuple-fits row r fs)
 
-    no_cells : (ks : List Kind) → fits_cells ks [] ≡ true
-    no_cells [] = refl
-    no_cells (k ∷ ks) = refl
+    no_dims : (fs : List ℕ) → length fs ≡ 0 → fits_cells (dim_kinds fs) [] ≡ true
+    no_dims [] e = refl
+    no_dims (f ∷ fs) e = absurd (omega arith)
 
-    groups-fit : (n : ℕ) → Every (fits_cells (dim_kinds dims)) (groups_of n rows)
-    groups-fit zero = both (fits_cells (dim_kinds dims) []) true (no_cells (dim_kinds dims)) refl
-    groups-fit (suc n) =
+    groups-fit : (n : ℕ) → length dims ≡ n → Every (fits_cells (dim_kinds dims)) (groups_of n rows)
+    groups-fit zero e = both (fits_cells (dim_kinds dims) []) true (no_dims dims e) refl
+    groups-fit (suc n) e =
         every-set_of tuple_cmp (fits_cells (dim_kinds dims)) (map (λ row. row.group) rows)
         (every-map (fits_cells (dim_kinds dims)) (λ (row : GivenRow). fits_cells (dim_kinds dims) row.group) (λ row. row.group) (λ row h. h) rows
         (every-map (λ (row : GivenRow). fits_cells (dim_kinds dims) row.group) (λ (e : ℕ × Joined). fits_row leaves.kinds e.1) (given_row x dims comps) (λ e r. tuple-fits e.1 r dims)
@@ -313,13 +318,13 @@ module _ (leaves : Leaves) (x : Explore) (fields : (f : ℕ) → is_typed_field 
       plain_of None b h none = h
       plain_of (Some e) b h none = cc
 
-      group_rows-fit : (n : ℕ) → Every is_group (group_rows n (ops_of x comps) rows)
-      group_rows-fit n =
+      group_rows-fit : (n : ℕ) → length dims ≡ n → Every is_group (group_rows n (ops_of x comps) rows)
+      group_rows-fit n e =
           every-map is_group (fits_cells (dim_kinds dims)) (group_row (ops_of x comps) rows)
           (λ group h. both (fits_cells (dim_kinds dims) group) _ h
           (each_of (has_kind_in (group_row (ops_of x comps) rows group)) ms
           (λ k there. calculated_or (measure_at x k).number _ (known-kind (length x.measures) ms is k group there))))
-          (groups_of n rows) (groups-fit n)
+          (groups_of n rows) (groups-fit n e)
 
       none_without : (list : List Measure) (n : ℕ) → length list ≡ 0 → (slice_index_or list n no_measure).number ≡ None
       none_without [] n e = refl
@@ -336,7 +341,7 @@ module _ (leaves : Leaves) (x : Explore) (fields : (f : ℕ) → is_typed_field 
           ((n : ℕ) → has_number n (picked_measures picks) ≡ true → is_of_kind (measure_at x n).kind (value_of_cell (measure_cell x known n)) ≡ true) →
           fits_cells (map (pick_kind x) picks) (map value_of_cell (line_cells x known picks group)) ≡ true
       line_fits known [] group g h = refl
-      line_fits known (Dim f ∷ picks) [] g h = refl
+      line_fits known (Dim f ∷ picks) [] g h = absurd (false≢true g)
       line_fits known (Dim f ∷ picks) (v ∷ group) g h =
           both (is_of_kind (field_at x f).kind v) _ (first (is_of_kind (field_at x f).kind v) _ g) (line_fits known picks group (second (is_of_kind (field_at x f).kind v) _ g) h)
       line_fits known (Mea n ∷ picks) group g h =
@@ -374,4 +379,4 @@ module _ (leaves : Leaves) (x : Explore) (fields : (f : ℕ) → is_typed_field 
       (of_each (has_kind_in leaves x fields measures passing fit dims comps asked refl row) n asked (second (fits_cells (dim_kinds leaves x fields measures passing fit dims comps dims) row.group) _ h) (in_left n (picked_measures b.picks) (filtered b.having) there)))))
       (filter (passes_having x b) grouped)
       (every-filter (is_group leaves x fields measures passing fit dims comps asked refl) (passes_having x b) grouped
-      (group_rows-fit leaves x fields measures passing fit dims comps asked refl (length dims)))))
+      (group_rows-fit leaves x fields measures passing fit dims comps asked refl (length dims) refl))))

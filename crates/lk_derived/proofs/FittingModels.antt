@@ -11,7 +11,7 @@ use Rattle.lk_semantics.specs.Answers.{measure_at, no_measure}
 use Rattle.lk_semantics.specs.Derived.{explore_at, no_explore, derived_query, derived_rows, derived_within, sources_of}
 use Rattle.lk_semantics.specs.Rollups.{derived_at}
 use Rattle.lk_semantics.specs.Reading.{no_table, table_at, pick_kind, derived_kinds, origin_kinds, leaves_of}
-use Rattle.lk_semantics.specs.Resolved.{IsResolved, IsResolvedExplore, is_typed_explore, has_typed_key, is_typed_join, is_typed_field, is_typed_measure}
+use Rattle.lk_semantics.specs.Resolved.{IsResolved, IsResolvedExplore, is_typed_explore, has_typed_key, is_typed_join, is_typed_field, is_typed_measure, names_numbers}
 use Rattle.lk_semantics.proofs.EveryLaws.{Every, both, first, second, every-filter, every-at}
 use Rattle.lk_semantics.proofs.DepthLaws.{lt_or_ge, past_end, row_at}
 use Rattle.lk_derived.specs.FittingRows.{fits_cells, fits_rows}
@@ -32,8 +32,9 @@ use Rattle.lk_types.specs.declared.model.Model.{Model}
 -- ---- stored tables
 
 kinds_of_columns : (columns : List ColumnDef) (cells : Cells) → are_of_kinds columns cells ≡ true → fits_cells (map (λ c. c.kind) columns) cells ≡ true
-kinds_of_columns [] cells h = refl
-kinds_of_columns (c ∷ columns) [] h = refl
+kinds_of_columns [] [] h = refl
+kinds_of_columns [] (v ∷ cells) h = absurd (false≢true h)
+kinds_of_columns (c ∷ columns) [] h = absurd (false≢true h)
 kinds_of_columns (c ∷ columns) (v ∷ cells) h =
     both (is_of_kind c.kind v) _ (first (is_of_kind c.kind v) (is_cell v) (first (is_of_kind c.kind v && is_cell v) (are_of_kinds columns cells) h))
     (kinds_of_columns columns cells (second (is_of_kind c.kind v && is_cell v) (are_of_kinds columns cells) h))
@@ -63,11 +64,14 @@ module _ (m : Model) (x : Explore) (typed : is_typed_explore m x ≡ true) where
   abbrev to_fields : Bool
   to_fields = keys_and_joins && list_all (is_typed_field (leaves_of m x)) x.fields
 
+  to_measures : (to_fields && list_all (is_typed_measure (leaves_of m x)) x.measures) ≡ true
+  to_measures = first (to_fields && list_all (is_typed_measure (leaves_of m x)) x.measures) (list_all (names_numbers x) x.measures) (first (to_fields && list_all (is_typed_measure (leaves_of m x)) x.measures && list_all (names_numbers x) x.measures) _ typed)
+
   measures_typed : (n : ℕ) → is_typed_measure (leaves_of m x) (measure_at x n) ≡ true
-  measures_typed n = every-at (is_typed_measure (leaves_of m x)) x.measures n no_measure (second to_fields (list_all (is_typed_measure (leaves_of m x)) x.measures) (first (to_fields && list_all (is_typed_measure (leaves_of m x)) x.measures) _ typed)) refl
+  measures_typed n = every-at (is_typed_measure (leaves_of m x)) x.measures n no_measure (second to_fields (list_all (is_typed_measure (leaves_of m x)) x.measures) to_measures) refl
 
   fields_typed : (f : ℕ) → is_typed_field (leaves_of m x) (field_at x f) ≡ true
-  fields_typed f = every-at (is_typed_field (leaves_of m x)) x.fields f no_field (second keys_and_joins (list_all (is_typed_field (leaves_of m x)) x.fields) (first to_fields (list_all (is_typed_measure (leaves_of m x)) x.measures) (first (to_fields && list_all (is_typed_measure (leaves_of m x)) x.measures) _ typed))) refl
+  fields_typed f = every-at (is_typed_field (leaves_of m x)) x.fields f no_field (second keys_and_joins (list_all (is_typed_field (leaves_of m x)) x.fields) (first to_fields (list_all (is_typed_measure (leaves_of m x)) x.measures) to_measures)) refl
 
 -- ---- derived tables
 

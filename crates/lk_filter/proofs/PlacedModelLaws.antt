@@ -8,7 +8,7 @@ use Rattle.lk_types.specs.declared.explore.Rollup.{Rollup}
 use Rattle.lk_types.specs.declared.explore.Explore.{Explore}
 use Rattle.lk_types.specs.declared.model.Derived.{Derived}
 use Rattle.lk_types.specs.declared.model.Model.{Model}
-use Rattle.lk_filter.specs.Placing.{is_placed}
+use Rattle.lk_types.specs.Filters.{is_placed}
 use Rattle.lk_filter.specs.PlacedModel.{placed_field_filter, placed_measure, placed_rollup, placed_explore, placed_derived, placed_model, are_placed, is_placed_measure, is_placed_rollup, is_placed_derived, is_placed_explore, is_placed_model}
 use Rattle.lk_filter.proofs.PlacingLaws.{placed-placed}
 

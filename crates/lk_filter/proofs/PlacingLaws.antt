@@ -4,12 +4,11 @@ use Rattle.std.specs.Prelude.{not}
 use Rattle.std.specs.List.{list_any}
 use Rattle.std.specs.Cmp.Derive.{both_true}
 use Rattle.std.proofs.lemmas.Bool.{false≢true}
-use Rattle.lk_types.specs.Filters.{placed, placed_test, today_at}
+use Rattle.lk_types.specs.Filters.{placed, placed_test, today_at, is_relative, is_placed}
 use Rattle.lk_types.specs.declared.filter.Filter.{Filter}
 use Rattle.lk_types.specs.declared.filter.Test.{Test}
 use Rattle.lk_types.specs.declared.filter.Test.TheVariants as test
 use Rattle.lk_filter.proofs.Steps.{both}
-use Rattle.lk_filter.specs.Placing.{is_relative, is_placed}
 
 test-placed : (n : ℕ) (t : Test) → is_relative (placed_test n t) ≡ false
 test-placed n test.Null = refl

@@ -1,14 +1,13 @@
 -- A model at a moment: its filters are placed, and nothing else of it differs; and which models are placed.
 use Rattle.std.specs.Prelude.{ℕ, ℤ, Bool, ◌&&◌, List, map}
 use Rattle.std.specs.List.{list_all}
-use Rattle.lk_types.specs.Filters.{placed}
+use Rattle.lk_types.specs.Filters.{placed, is_placed}
 use Rattle.lk_types.specs.declared.filter.Filter.{Filter}
 use Rattle.lk_types.specs.declared.explore.Measure.{Measure}
 use Rattle.lk_types.specs.declared.explore.Rollup.{Rollup}
 use Rattle.lk_types.specs.declared.explore.Explore.{Explore}
 use Rattle.lk_types.specs.declared.model.Derived.{Derived}
 use Rattle.lk_types.specs.declared.model.Model.{Model}
-use Rattle.lk_filter.specs.Placing.{is_placed}
 
 -- the filter of a field, by the field's number
 abbrev pub placed_field_filter : ℤ → ℕ × Filter → ℕ × Filter

@@ -4,7 +4,7 @@ ghost use Rattle.std.specs.Prelude.{◌≡◌, ◌+◌, ◌<◌, ◌&&◌, ◌==
 ghost use Rattle.lk_val.specs.Fractions.{Fraction};
 ghost use Rattle.lk_val.specs.declared.value.Value.{Value};
 ghost use Rattle.lk_types.specs.Calendar.{from_1970};
-ghost use Rattle.lk_types.specs.Filters.{placed, placed_test, passes, passes_frac, day_meets, is_same_test, is_same_filter, unit_of, unit_start};
+ghost use Rattle.lk_types.specs.Filters.{placed, placed_test, passes, passes_frac, day_meets, is_same_test, is_same_filter, unit_of, unit_start, is_placed};
 ghost use Rattle.lk_types.specs.declared.filter.Filter.{Filter};
 ghost use Rattle.lk_types.specs.declared.filter.Period.{Period};
 ghost use Rattle.lk_types.specs.declared.filter.Test.{Test};
@@ -13,7 +13,7 @@ ghost use Rattle.lk_types.specs.declared.model.Model.{Model};
 ghost use Rattle.lk_filter.specs.declared.reading.FilterKind.{FilterKind};
 ghost use Rattle.lk_filter.specs.FilterTexts.{IsFilterText, IsFaultPlace};
 ghost use Rattle.lk_filter.specs.PlacedModel.{placed_model, is_placed_model};
-ghost use Rattle.lk_filter.specs.Placing.{IsInItsUnit, IsWithinYears, is_placed};
+ghost use Rattle.lk_filter.specs.Placing.{IsInItsUnit, IsWithinYears};
 
 /// A text spells one filter of a kind, if any. A law: it computes nothing.
 pub fn filter_texts_spell_one_filter()

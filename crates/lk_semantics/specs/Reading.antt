@@ -74,7 +74,7 @@ explore_datagroups m x = with_rollups x (datagroups_of m (reached_tables m x))
 
 -- ---- the kinds of columns
 
--- the table past the end of a schema's tables, and the table of a number
+-- the table past the end of a schema's tables
 abbrev pub no_table : TableDef
 no_table = record { name = []; columns = []; key = None }
 

@@ -1,15 +1,17 @@
 -- What a resolved model is: what every call that takes one may rely on.
-use Rattle.std.specs.Prelude.{◌≡◌, ℕ, ◌+◌, nat_eq, nat_lt, nat_le, Bool, true, false, not, ◌&&◌, ◌||◌, if◌then◌else◌, ℤ, pos, neg_ℤ, int_le, int_lt, List, [], ◌∷◌, ◌++◌, map, flat_map, length, slice_get, Option, Some, None}
+use Rattle.std.specs.Prelude.{◌≡◌, ℕ, ◌+◌, nat_eq, nat_lt, nat_le, unwrap_or, Bool, true, false, not, ◌&&◌, ◌||◌, if◌then◌else◌, ℤ, pos, neg_ℤ, int_le, int_lt, List, [], ◌∷◌, ◌++◌, map, flat_map, length, slice_get, Option, Some, None}
 use Rattle.std.specs.List.{list_any, list_all, enumerate_from, AllByRecursion}
 use Rattle.lk_types.specs.Formula.{Formula, Column}
 use Rattle.lk_types.specs.Calculation.{Calculation}
 use Rattle.lk_types.specs.Expressions.{has_number}
 use Rattle.lk_types.specs.Dates.{are_literals_dated}
-use Rattle.lk_types.specs.Shapes.{shaped_kind}
-use Rattle.lk_types.specs.Kinds.{kinds_of, has_kind, is_same_kind}
-use Rattle.lk_semantics.specs.Joins.{is_cross, numbers_below, in_declared_order}
+use Rattle.lk_types.specs.Shapes.{framed_kind}
+use Rattle.lk_types.specs.Filters.{is_filter_of, is_placed}
+use Rattle.lk_types.specs.Kinds.{kinds_of, has_kind, is_same_kind, is_empty, single}
+use Rattle.lk_semantics.specs.Joins.{is_cross, numbers_below}
 use Rattle.lk_semantics.specs.Answers.{measure_at, measures_in, components_of, filtered, query_components}
-use Rattle.lk_semantics.specs.Derived.{explore_at, derived_query}
+use Rattle.lk_semantics.specs.Rows.{field_at}
+use Rattle.lk_semantics.specs.Derived.{explore_at, derived_query, query_joins}
 use Rattle.lk_semantics.specs.Rollups.{may_be_stored, may_be_rolled_up}
 use Rattle.lk_semantics.specs.Reading.{table_at, leaves_of, reads_itself, explore_datagroups}
 use Rattle.lk_val.specs.Least.{least_set}
@@ -148,6 +150,14 @@ has_tiers (shape.Frame group frame) = true
 abbrev pub is_typed : Leaves → Kind → Formula → Bool
 is_typed leaves k e = has_kind k (kinds_of leaves e) && are_literals_dated e
 
+-- the kind of an expression: its one kind, and a kind that stands for it where none or several are left
+abbrev pub settled_kind : Leaves → Kind → Formula → Kind
+settled_kind leaves k e = unwrap_or (single (kinds_of leaves e)) k
+
+-- an expression of the kind that is settled so, without a clash, and whose literals are of the years 1 to 9999
+abbrev pub is_settled : Leaves → Kind → Kind → Formula → Bool
+is_settled leaves default k e = not (is_empty (kinds_of leaves e)) && is_same_kind k (settled_kind leaves default e) && are_literals_dated e
+
 -- an expression, if there is one, is so
 abbrev pub is_none_or_typed : Leaves → Kind → Option Formula → Bool
 is_none_or_typed leaves k None = true
@@ -158,24 +168,40 @@ abbrev pub is_some_typed : Leaves → Kind → Option Formula → Bool
 is_some_typed leaves k None = false
 is_some_typed leaves k (Some e) = is_typed leaves k e
 
+-- an expression is there and is of the kind that is settled so
+abbrev pub is_some_settled : Leaves → Kind → Kind → Option Formula → Bool
+is_some_settled leaves default k None = false
+is_some_settled leaves default k (Some e) = is_settled leaves default k e
+
 -- an expression is there and has some kind
 abbrev pub is_some_known : Leaves → Option Formula → Bool
 is_some_known leaves e = list_any (λ k. is_some_typed leaves k e) (kind.Text ∷ kind.Number ∷ kind.Truth ∷ kind.Day ∷ kind.Moment ∷ [])
 
--- the kinds of which a field of the shape and kind may be made: a tier is made of a number, a timeframe of a day or moment
-abbrev pub is_made_of : Field → Kind → Bool
-is_made_of f k = is_same_kind f.kind (shaped_kind f.shape k) && may_shape f.shape k
-  where
-    may_shape : Shape → Kind → Bool
-    may_shape shape.Plain base = true
-    may_shape (shape.Tier bounds) base = is_same_kind base kind.Number
-    may_shape (shape.Frame group frame) base = is_same_kind base kind.Day || is_same_kind base kind.Moment
+-- a kind that a dimension's type may have: a text, a number, a yes or no
+abbrev pub is_type_kind : Kind → Bool
+is_type_kind kind.Text = true
+is_type_kind kind.Number = true
+is_type_kind kind.Truth = true
+is_type_kind kind.Day = false
+is_type_kind kind.Moment = false
 
--- a dimension's expression has a kind from which its shape makes its own
+-- a day or a moment
+abbrev pub is_time_kind : Kind → Bool
+is_time_kind kind.Day = true
+is_time_kind kind.Moment = true
+is_time_kind k = false
+
+-- the kind of what is grouped by a shape over the expression: a plain one that of its type; a tier is of a number; a timeframe of a day or moment, and of a moment where the expression leaves that open
+abbrev pub has_shape_kind : Leaves → Shape → Kind → Formula → Bool
+has_shape_kind leaves shape.Plain k e = is_type_kind k && is_typed leaves k e
+has_shape_kind leaves (shape.Tier bounds) k e = is_same_kind k kind.Number && is_typed leaves kind.Number e
+has_shape_kind leaves (shape.Frame group frame) k e =
+    let base = settled_kind leaves kind.Moment e in
+    is_time_kind base && is_settled leaves kind.Moment base e && is_same_kind k (framed_kind frame base)
+
+-- a dimension has the kind that its shape makes of its expression
 abbrev pub is_typed_field : Leaves → Field → Bool
-is_typed_field leaves f =
-    has_tiers f.shape
-    && list_any (λ k. is_made_of f k && is_typed leaves k f.expr) (kind.Text ∷ kind.Number ∷ kind.Truth ∷ kind.Day ∷ kind.Moment ∷ [])
+is_typed_field leaves f = has_tiers f.shape && has_shape_kind leaves f.shape f.kind f.expr
 
 -- there is no expression
 abbrev pub is_no_formula : Option Formula → Bool
@@ -192,15 +218,15 @@ abbrev pub is_number_type : Op → Bool
 is_number_type op.Number = true
 is_number_type other = false
 
--- a type of measure has the value and the key that it computes with: a count and a `number` have no value
+-- a type of measure has the value and the key that it computes with, and no other: a count and a `number` have no value, and only the two distinct types a key. The kind of a `min` or `max` is a text where its value leaves the kind open
 abbrev pub has_operands : Leaves → Op → Kind → Option Formula → Option Formula → Bool
-has_operands leaves op.Count k value key = is_no_formula value
-has_operands leaves op.Number k value key = is_no_formula value
-has_operands leaves op.CountDistinct k value key = is_some_known leaves value
-has_operands leaves op.Min k value key = is_some_typed leaves k value
-has_operands leaves op.Max k value key = is_some_typed leaves k value
-has_operands leaves op.Sum k value key = is_some_typed leaves kind.Number value
-has_operands leaves op.Average k value key = is_some_typed leaves kind.Number value
+has_operands leaves op.Count k value key = is_no_formula value && is_no_formula key
+has_operands leaves op.Number k value key = is_no_formula value && is_no_formula key
+has_operands leaves op.CountDistinct k value key = is_some_known leaves value && is_no_formula key
+has_operands leaves op.Min k value key = is_some_settled leaves kind.Text k value && is_no_formula key
+has_operands leaves op.Max k value key = is_some_settled leaves kind.Text k value && is_no_formula key
+has_operands leaves op.Sum k value key = is_some_typed leaves kind.Number value && is_no_formula key
+has_operands leaves op.Average k value key = is_some_typed leaves kind.Number value && is_no_formula key
 has_operands leaves op.SumDistinct k value key = is_some_typed leaves kind.Number value && is_some_known leaves key
 has_operands leaves op.AverageDistinct k value key = is_some_typed leaves kind.Number value && is_some_known leaves key
 
@@ -235,6 +261,10 @@ has_typed_key leaves part = of_key part.key
     of_key None = true
     of_key (Some e) = is_some_known leaves (Some e)
 
+-- a `number` calculates with numbers alone
+abbrev pub names_numbers : Explore → Measure → Bool
+names_numbers x m = list_all (λ n. is_same_kind (measure_at x n).kind kind.Number) (named_measures m)
+
 -- all expressions of an explore have the kinds of their places
 abbrev pub is_typed_explore : Model → Explore → Bool
 is_typed_explore m x =
@@ -242,6 +272,7 @@ is_typed_explore m x =
     && list_all (is_typed_join (leaves_of m x)) x.joins
     && list_all (is_typed_field (leaves_of m x)) x.fields
     && list_all (is_typed_measure (leaves_of m x)) x.measures
+    && list_all (names_numbers x) x.measures
     && is_none_or_typed (leaves_of m x) kind.Truth x.always_where
 
 -- two fields that are timeframes of one group are of one view and one expression
@@ -294,9 +325,22 @@ has_grounded_measures x =
 
 -- ---- what is stored
 
+-- each filter is one of its field's kind
+abbrev pub are_filters_of : Explore → List (ℕ × Filter) → Bool
+are_filters_of x filters = list_all (λ f. is_filter_of (field_at x f.0).kind f.1) filters
+
+-- the filters of an explore, of its measures and of its aggregate tables are so
+abbrev pub has_typed_filters : Explore → Bool
+has_typed_filters x =
+    are_filters_of x x.always && list_all (λ n. are_filters_of x n.filters) x.measures && list_all (λ r. are_filters_of x r.filters) x.rollups
+
+-- the filters of a derived table are so
+abbrev pub has_typed_sources : Model → Derived → Bool
+has_typed_sources m d = are_filters_of (explore_at m d.explore) d.filters
+
 -- the filters have no relative date
 abbrev pub are_fixed : List (ℕ × Filter) → Bool
-are_fixed filters = list_all (λ f. not f.1.relative) filters
+are_fixed filters = list_all (λ f. is_placed f.1) filters
 
 -- the filters of some measures have none
 abbrev pub have_fixed_filters : Explore → List ℕ → Bool
@@ -330,6 +374,7 @@ are_one (g ∷ gs) = list_all (nat_eq g) gs
 pub record IsResolvedExplore (m : Model) (x : Explore) : Type 0 where
   pub parts : has_part_for_each_join x ≡ true
   pub typed : is_typed_explore m x ≡ true
+  pub filters : has_typed_filters x ≡ true
   pub groups : HasGroupsOfOnePart x
   pub keys : has_exact_keys m x ≡ true
   pub grounded : has_grounded_measures x ≡ true
@@ -339,6 +384,7 @@ pub record IsResolvedExplore (m : Model) (x : Explore) : Type 0 where
 
 -- a derived table of a resolved model
 pub record IsResolvedDerived (m : Model) (d : Derived) : Type 0 where
+  pub filters : has_typed_sources m d ≡ true
   pub stored : may_be_derived m d ≡ true
   pub fixed : is_fixed_derived m d ≡ true
 
@@ -351,12 +397,18 @@ pub record IsResolved (m : Model) : Type 0 where
 
 -- ---- queries of a model
 
--- the numbers of a bound query are the model's, and its joins are a set in declared order
+-- each filter on a measure is one of the measure's kind
+abbrev pub are_measure_filters : Explore → List (ℕ × Filter) → Bool
+are_measure_filters x filters = list_all (λ f. is_filter_of (measure_at x f.0).kind f.1) filters
+
+-- a bound query of a model: its numbers are the model's, its joins are those that it needs, and its filters are of their fields' kinds, with no relative date left
 pub record IsInModel (m : Model) (b : Bound) : Type 0 where
   pub explore : nat_lt b.explore (length m.explores) ≡ true
   pub picks : list_all (is_pick (explore_at m b.explore)) b.picks ≡ true
-  pub joins : b.joins ≡ in_declared_order (explore_at m b.explore) b.joins
-  pub access : are_fields (explore_at m b.explore) (filtered b.access) ≡ true
-  pub rows : are_fields (explore_at m b.explore) (filtered b.rows) ≡ true
-  pub having : are_measures (explore_at m b.explore) (filtered b.having) ≡ true
+  pub joins : b.joins ≡ query_joins (explore_at m b.explore) b.picks b.rows b.access b.having
+  pub fields : are_fields (explore_at m b.explore) (filtered (b.access ++ b.rows)) ≡ true
+  pub measures : are_measures (explore_at m b.explore) (filtered b.having) ≡ true
+  pub kinds : (are_filters_of (explore_at m b.explore) (b.access ++ b.rows) && are_measure_filters (explore_at m b.explore) b.having) ≡ true
+  pub placed : are_fixed (b.access ++ b.rows ++ b.having) ≡ true
   pub sorts : list_all (λ s. nat_lt s.place (length b.picks)) b.sorts ≡ true
+  pub limit : (nat_le 1 b.limit && nat_le b.limit 5000) ≡ true

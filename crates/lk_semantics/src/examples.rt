@@ -1,21 +1,21 @@
-ghost use Rattle.std.specs.Prelude.{◌≡◌, ◌∷◌, ◌++◌, [], true, false, pos, map, length, codes, Some, None, option_and_then};
+ghost use Rattle.std.specs.Prelude.{◌≡◌, ◌∷◌, ◌++◌, [], true, false, pos, map, not, length, codes, Some, None, option_and_then};
 ghost use Rattle.lk_val.specs.declared.cell.Cell.TheVariants as cell;
 ghost use Rattle.lk_val.specs.declared.value.Value.TheVariants as value;
 ghost use Rattle.lk_val.specs.Fractions.{frac_add, frac_div, frac_of_sum, frac_of_count};
 ghost use Rattle.lk_types.specs.Expressions.{value_of};
-ghost use Rattle.lk_semantics.specs.Joins.{joined_rows, is_fanned};
+ghost use Rattle.lk_semantics.specs.Joins.{joined_rows, is_fanned, numbers_below};
 ghost use Rattle.lk_semantics.specs.Rows.{passing_rows};
 ghost use Rattle.lk_semantics.specs.Measures.{pairs_of, total, groups_of};
 ghost use Rattle.lk_semantics.specs.Answers.{answer_of, given_rows, measure_at};
 ghost use Rattle.lk_semantics.specs.Derived.{explore_at, joins_for, with_always};
 ghost use Rattle.lk_semantics.specs.Reading.{reached_tables, explore_datagroups, reads_itself, leaves_of};
-ghost use Rattle.lk_semantics.specs.Resolved.{IsResolved, is_typed_explore, are_one};
-ghost use Rattle.lk_semantics.specs.Corners.{count_with_value, cross_with_condition, with_default, buyers_and_sellers, by_buyers_day, chained, circular};
+ghost use Rattle.lk_semantics.specs.Resolved.{IsResolved, is_typed_explore, is_numbered_rollup, has_grounded_measures, has_typed_filters, is_fixed_rollup, has_exact_keys, has_part_for_each_join, are_one};
+ghost use Rattle.lk_semantics.specs.Corners.{count_with_value, cross_with_condition, with_default, buyers_and_sellers, by_buyers_day, chained, circular, with_field, with_measure, open_time, number_over_text, number_over_itself, with_default_of, without_key, without_items, by_today, beside_rollup};
 ghost use Rattle.lk_semantics.specs.Rollups.{determined_views, present_views, has_field, reached_datagroups, fits, route_of, partials_of, may_be_stored, may_be_rolled_up, merged, cell_of_partial};
 ghost use Rattle.lk_types.specs.Tables.{is_valid_table};
 ghost use Rattle.lk_types.specs.Kinds.{kind_at};
 ghost use Rattle.lk_semantics.specs.Shop.{shop, other_shop, empty_shop, greatest_shop, shop_without_user, shop_model, items, items_def, orders_explore, orders_with, near_orders, not_far, order_without_user, per_order, greatest_total, by_day, by_price, query, query_of_ann, open_query, two_orders, of_status, at_least_100, whole, sum, dim, day, fraction_cell, kept, of_values};
-ghost use Rattle.lk_types.specs.Samples.{units, parts, word, only};
+ghost use Rattle.lk_types.specs.Samples.{units, parts, word, only, is};
 ghost use Rattle.lk_semantics.specs.SmallTables.{one, both, two_tables, joined_as, regions_explore, regions_and_users, regions_shop};
 ghost use Rattle.lk_semantics.specs.WrongDefinitions.{given_entries, total_of_rows, is_not_false, groups_without_null, answer_over_all, conflicts_of_all};
 ghost use Rattle.lk_types.specs.declared.schema.Frame.TheVariants as frame;
@@ -26,6 +26,11 @@ ghost use Rattle.lk_types.specs.declared.filter.Test.TheVariants as test;
 ghost use Rattle.lk_types.specs.declared.filter.Period.TheVariants as period;
 ghost use Rattle.lk_types.specs.declared.explore.JoinKind.TheVariants.{Left, Full, Inner, Cross};
 ghost use Rattle.lk_types.specs.declared.schema.Kind.TheVariants as kind;
+ghost use Rattle.lk_types.specs.Formula.{Column, Literal};
+ghost use Rattle.lk_types.specs.declared.schema.Frame.TheVariants as frame;
+ghost use Rattle.lk_types.specs.declared.explore.Shape.TheVariants as shape;
+ghost use Rattle.lk_types.specs.declared.filter.Test.TheVariants as test;
+ghost use Rattle.std.specs.List.{list_all};
 ghost use Rattle.lk_types.specs.declared.explore.Op.TheVariants as op;
 ghost use Rattle.lk_types.specs.declared.model.Pick.TheVariants.{Dim, Mea};
 ghost use Rattle.lk_types.specs.declared.answer.Answer.TheVariants.{Duplicate, Table};
@@ -157,7 +162,7 @@ pub fn corners_are_defined()
     ensures count_with_value { joins_for count_with_value [] (5 ∷ []) ≡ [] }
     ensures cross_with_condition { joins_for cross_with_condition (6 ∷ []) [] ≡ 0 ∷ [] }
     ensures any_order { joined_rows orders_explore shop (1 ∷ 0 ∷ 1 ∷ []) ≡ joined_rows orders_explore shop (0 ∷ 1 ∷ []) }
-    ensures fanned_in_any_order { is_fanned orders_explore (1 ∷ 0 ∷ []) 1 ≡ is_fanned orders_explore (0 ∷ 1 ∷ []) 1 }
+    ensures once_each { is_fanned orders_explore (1 ∷ 1 ∷ []) 2 ≡ false }
     ensures by_name { map (λ f. f.0) (with_always with_default (of_status (codes "open"))) ≡ 8 ∷ 2 ∷ [] }
     ensures other_view { has_field buyers_and_sellers by_buyers_day 1 ≡ false }
     ensures same_view { has_field buyers_and_sellers by_buyers_day 2 ≡ true }
@@ -180,5 +185,23 @@ pub fn the_shop_is_resolved()
     ensures shop { IsResolved shop_model }
     ensures count_with_value { is_typed_explore shop_model count_with_value ≡ false }
     ensures cross_with_condition { is_typed_explore shop_model cross_with_condition ≡ false }
+    ensures open_greatest { is_typed_explore shop_model (with_measure op.Max kind.Text (Some open_time)) ≡ true }
+    ensures open_greatest_day { is_typed_explore shop_model (with_measure op.Max kind.Day (Some open_time)) ≡ false }
+    ensures null_greatest { is_typed_explore shop_model (with_measure op.Max kind.Number (Some (Literal value.Null))) ≡ false }
+    ensures open_group { is_typed_explore shop_model (with_field kind.Moment (Literal value.Null) (shape.Frame 0 frame.Raw)) ≡ true }
+    ensures open_group_day { is_typed_explore shop_model (with_field kind.Day (Literal value.Null) (shape.Frame 0 frame.Raw)) ≡ false }
+    ensures plain_moment { is_typed_explore shop_model (with_field kind.Moment (Column 0 3) shape.Plain) ≡ false }
+    ensures tiers_that_fall { is_typed_explore shop_model (with_field kind.Number (Column 0 0) (shape.Tier (pos 20 ∷ pos 10 ∷ []))) ≡ false }
+    ensures late_literal { is_typed_explore shop_model (with_measure op.Max kind.Day (Some (Literal (value.Day (pos 2932897))))) ≡ false }
+    ensures number_over_text { is_typed_explore shop_model number_over_text ≡ false }
+    ensures number_over_itself { has_grounded_measures number_over_itself ≡ false }
+    ensures number_on_text { has_typed_filters (with_default_of 2 (only (is 5 ∷ []) [])) ≡ false }
+    ensures unmarked_date { has_typed_filters (with_default_of 3 (only (test.Today ∷ []) [])) ≡ false }
+    ensures relative_rollup { is_fixed_rollup orders_explore by_today ≡ false }
+    ensures missing_key { has_exact_keys shop_model without_key ≡ false }
+    ensures missing_view { has_part_for_each_join without_items ≡ false }
+    ensures missing_field { is_numbered_rollup shop_model orders_explore (record by_day { dims = 11 ∷ [] }) ≡ false }
+    ensures itself_read { list_all (λ d. not (reads_itself circular d)) (numbers_below (length circular.derived)) ≡ false }
     ensures two_datagroups { are_one (explore_datagroups chained (explore_at chained 2)) ≡ false }
+    ensures beside_rollup { are_one (explore_datagroups chained beside_rollup) ≡ false }
 {}

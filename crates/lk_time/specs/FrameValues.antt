@@ -4,15 +4,8 @@ use Rattle.lk_val.specs.declared.value.Value.{Value}
 use Rattle.lk_val.specs.declared.value.Value.TheVariants.{Null, Text, Num, Day, Moment}
 use Rattle.lk_types.specs.declared.schema.Frame.{Frame}
 use Rattle.lk_types.specs.declared.schema.Frame.TheVariants.{Date, HourOfDay, DayOfWeek, DayOfMonth, MonthNum}
+use Rattle.lk_types.specs.Dates.{IsDayInYears, IsMomentInYears}
 use Rattle.lk_types.specs.Timeframes.{timeframe_of}
-
--- a day from 0001-01-01 to 9999-12-31, counted from 1970-01-01
-abbrev pub IsDayInYears : ℤ → Type 0
-IsDayInYears day = (neg_ℤ (pos 719162) ≤ℤ day) × (day ≤ℤ pos 2932896)
-
--- a second from 0001-01-01 00:00:00 to 9999-12-31 23:59:59, counted from 1970-01-01 00:00:00
-abbrev pub IsMomentInYears : ℤ → Type 0
-IsMomentInYears moment = (neg_ℤ (pos 62135596800) ≤ℤ moment) × (moment ≤ℤ pos 253402300799)
 
 -- null, or a day or moment of the years 1 to 9999
 abbrev pub IsInYears : Value → Type 0

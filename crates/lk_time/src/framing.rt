@@ -1,7 +1,8 @@
 ghost use Rattle.std.specs.Prelude.{◌≡◌, ◌<◌, ◌/◌};
 ghost use Rattle.lk_types.specs.Calendar.{day_of_moment, second_of_moment};
 ghost use Rattle.lk_types.specs.Timeframes.{whole};
-ghost use Rattle.lk_time.specs.FrameValues.{IsDayInYears, IsMomentInYears, IsInYears, IsInRangeOf, frame_value};
+ghost use Rattle.lk_types.specs.Dates.{IsDayInYears, IsMomentInYears};
+ghost use Rattle.lk_time.specs.FrameValues.{IsInYears, IsInRangeOf, frame_value};
 ghost use Rattle.lk_val.specs.declared.value.Value.TheVariants as value;
 
 use crate::civil::{date_of, month_start, quarter_start, week_start, year_start};

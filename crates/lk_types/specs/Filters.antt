@@ -1,5 +1,5 @@
 -- Which values pass a filter, and what its relative dates stand for at a moment.
-use Rattle.std.specs.Prelude.{ℕ, ◌+◌, ◌-◌, ◌*◌, ◌/◌, ◌%◌, ◌==◌, min, Bool, true, false, not, ◌&&◌, ◌||◌, ℤ, pos, int_le, int_lt, List, [], map, Option, Some, None, if◌then◌else◌}
+use Rattle.std.specs.Prelude.{ℕ, nat_le, ◌+◌, ◌-◌, ◌*◌, ◌/◌, ◌%◌, ◌==◌, min, Bool, true, false, not, ◌&&◌, ◌||◌, ℤ, pos, int_le, int_lt, List, [], map, Option, Some, None, if◌then◌else◌}
 use Rattle.std.specs.List.{list_any, list_all}
 use Rattle.std.specs.Cmp.Lexicographic.{pointwise}
 use Rattle.std.specs.Ordering.{int_eq}
@@ -13,6 +13,9 @@ use Rattle.lk_types.specs.declared.expr.Comparison.{Comparison}
 use Rattle.lk_types.specs.declared.expr.Comparison.TheVariants as comparison
 use Rattle.lk_types.specs.declared.expr.Piece.{Piece}
 use Rattle.lk_types.specs.declared.expr.Piece.TheVariants as piece
+use Rattle.lk_types.specs.Dates.{is_day_in_years}
+use Rattle.lk_types.specs.declared.schema.Kind.{Kind}
+use Rattle.lk_types.specs.declared.schema.Kind.TheVariants as kind
 use Rattle.lk_types.specs.declared.filter.Filter.{Filter}
 use Rattle.lk_types.specs.declared.filter.Days.{Days}
 use Rattle.lk_types.specs.declared.filter.End.{End}
@@ -152,6 +155,79 @@ abbrev pub placed : ℤ → Filter → Filter
 placed now f =
     let n = today_at now in
     record { include = map (placed_test n) f.include; exclude = map (placed_test n) f.exclude; relative = false }
+
+-- a test is a relative date
+abbrev pub is_relative : Test → Bool
+is_relative test.Today = true
+is_relative test.Yesterday = true
+is_relative (test.This p) = true
+is_relative (test.Last p) = true
+is_relative (test.Recent n p) = true
+is_relative (test.Ago n p) = true
+is_relative t = false
+
+-- some test of the filter is a relative date
+abbrev pub has_relative : Filter → Bool
+has_relative f = list_any is_relative f.include || list_any is_relative f.exclude
+
+-- no test of the filter is a relative date
+abbrev pub is_placed : Filter → Bool
+is_placed f = not (list_any is_relative f.include) && not (list_any is_relative f.exclude)
+
+-- ---- the kinds of tests
+
+-- days of the years 1 to 9999, up to the first day after them
+abbrev pub are_days : Days → Bool
+are_days span = is_day_in_years span.from && int_le span.from span.up_to && int_le span.up_to (pos 2932897)
+
+-- a number of units of a relative date
+abbrev pub is_count : ℕ → Bool
+is_count n = nat_le 1 n && nat_le n 10000
+
+-- a test is one that a filter on days or moments may have
+abbrev pub is_date_test : Test → Bool
+is_date_test test.Null = true
+is_date_test (test.In span) = are_days span
+is_date_test (test.Before span) = are_days span
+is_date_test (test.After span) = are_days span
+is_date_test (test.FromTo first last) = are_days first && are_days last
+is_date_test (test.Recent n p) = is_count n
+is_date_test (test.Ago n p) = is_count n
+is_date_test t = is_relative t
+
+-- a test is one that a filter on numbers may have
+abbrev pub is_number_test : Test → Bool
+is_number_test test.Null = true
+is_number_test (test.Is n) = true
+is_number_test (test.Compare comparisons) = true
+is_number_test (test.To low high) = true
+is_number_test (test.Range low high) = true
+is_number_test t = false
+
+-- a test is one that a filter on texts may have
+abbrev pub is_text_test : Test → Bool
+is_text_test test.Null = true
+is_text_test test.Empty = true
+is_text_test (test.Like pieces) = true
+is_text_test t = false
+
+-- a test is one that a filter on truth values may have
+abbrev pub is_truth_test : Test → Bool
+is_truth_test test.Null = true
+is_truth_test (test.Truth b) = true
+is_truth_test t = false
+
+-- a test is one that a filter on values of the kind may have (Looker, filter expressions)
+abbrev pub is_test_of : Kind → Test → Bool
+is_test_of kind.Text t = is_text_test t
+is_test_of kind.Number t = is_number_test t
+is_test_of kind.Truth t = is_truth_test t
+is_test_of kind.Day t = is_date_test t
+is_test_of kind.Moment t = is_date_test t
+
+-- a filter of the kind: each test is of it, and its mark says whether some test is a relative date
+abbrev pub is_filter_of : Kind → Filter → Bool
+is_filter_of k f = list_all (is_test_of k) f.include && list_all (is_test_of k) f.exclude && (if has_relative f then f.relative else not f.relative)
 
 -- ---- sameness
 

@@ -15,10 +15,11 @@ use Rattle.lk_types.specs.declared.kind_set.Leaves.{Leaves}
 
 -- ---- sets of kinds
 
--- the empty set, and that of all kinds
+-- the empty set
 abbrev pub no_kind : KindSet
 no_kind = record { text = false; number = false; truth = false; day = false; moment = false }
 
+-- the set of all kinds
 abbrev pub every_kind : KindSet
 every_kind = record { text = true; number = true; truth = true; day = true; moment = true }
 

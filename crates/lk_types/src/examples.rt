@@ -1,14 +1,20 @@
-ghost use Rattle.std.specs.Prelude.{◌≡◌, ◌∷◌, [], true, false, pos, neg_ℤ, map, codes};
+ghost use Rattle.std.specs.Prelude.{◌≡◌, ◌∷◌, [], true, false, pos, neg_ℤ, map, replicate, codes, Some, None};
 ghost use Rattle.lk_val.specs.declared.cell.Cell.TheVariants as cell;
 ghost use Rattle.lk_val.specs.declared.value.Value.TheVariants as value;
-ghost use Rattle.lk_types.specs.Formula.{Literal, And, In, Like, Number, Negate, no_more, more};
+ghost use Rattle.lk_types.specs.Formula.{Column, Compare, Or, Literal, And, In, Like, Number, Negate, no_more, more};
 ghost use Rattle.lk_types.specs.Expressions.{value_of, matches};
 ghost use Rattle.lk_types.specs.Timeframes.{timeframe_of};
-ghost use Rattle.lk_types.specs.Filters.{passes, placed};
-ghost use Rattle.lk_types.specs.Shapes.{tier_of};
+ghost use Rattle.lk_types.specs.Filters.{passes, placed, is_filter_of};
+ghost use Rattle.lk_types.specs.Tables.{is_cell};
+ghost use Rattle.lk_types.specs.Printing.{cell_json};
+ghost use Rattle.lk_types.specs.Unfolded.{any_equal};
+ghost use Rattle.lk_types.specs.Shapes.{tier_of, shaped_kind};
 ghost use Rattle.lk_types.specs.Samples.{units, parts, word, only, is, at, interval, days};
 ghost use Rattle.lk_types.specs.declared.rows.Joined.{Joined};
 ghost use Rattle.lk_types.specs.declared.schema.Frame.TheVariants as frame;
+ghost use Rattle.lk_types.specs.declared.schema.Kind.TheVariants as kind;
+ghost use Rattle.lk_types.specs.declared.explore.Shape.TheVariants as shape;
+ghost use Rattle.lk_types.specs.declared.expr.Comparison.TheVariants as comparison;
 ghost use Rattle.lk_types.specs.declared.expr.Arithmetic.TheVariants as arithmetic;
 ghost use Rattle.lk_types.specs.declared.expr.Piece.TheVariants as piece;
 ghost use Rattle.lk_types.specs.declared.filter.Edge.TheVariants as edge;
@@ -64,4 +70,24 @@ pub fn filters_pass_values()
     ensures relative_dates { (placed (pos 1709380800) (only (test.This period.Week ∷ test.Last period.Quarter ∷ test.Recent 3 period.Day
         ∷ test.Recent 2 period.Month ∷ test.Ago 1 period.Month ∷ []) [])).include
         ≡ days 19779 19786 ∷ days 19631 19723 ∷ days 19782 19785 ∷ days 19754 19814 ∷ days 19754 19783 ∷ [] }
+{}
+
+/// Which values a cell of a table may have, what null is in JSON, the kinds of shapes, and a text that is a day in
+/// one comparison and a text in the other. A law: it computes nothing.
+pub fn cells_and_shapes_are_told_apart()
+    ensures empty_text { is_cell (word []) ≡ false }
+    ensures long_text { is_cell (word (replicate 4097 97)) ≡ false }
+    ensures late_day { is_cell (value.Day (pos 2932897)) ≡ false }
+    ensures last_day { is_cell (value.Day (pos 2932896)) ≡ true }
+    ensures null_in_json { cell_json shape.Plain (cell.Value value.Null) ≡ None }
+    ensures empty_in_json { cell_json shape.Plain (cell.Value (word [])) ≡ Some [] }
+    ensures tier_in_json { cell_json (shape.Tier (pos 0 ∷ [])) (cell.Value value.Null) ≡ Some (codes "Undefined") }
+    ensures hour { shaped_kind (shape.Frame 0 frame.HourOfDay) kind.Moment ≡ kind.Number }
+    ensures weekday { shaped_kind (shape.Frame 0 frame.DayOfWeek) kind.Moment ≡ kind.Text }
+    ensures date { shaped_kind (shape.Frame 0 frame.Date) kind.Moment ≡ kind.Day }
+    ensures each_side { any_equal ((Literal (value.Day (pos 19723)), Column 0 0) ∷ (Literal (word (codes "2024-01-01")), Column 0 1) ∷ [])
+        ≡ Or (Compare comparison.Equal (Literal (value.Day (pos 19723))) (Column 0 0)) (Compare comparison.Equal (Literal (word (codes "2024-01-01"))) (Column 0 1)) }
+    ensures number_on_text { is_filter_of kind.Text (only (is 5 ∷ []) []) ≡ false }
+    ensures number_on_number { is_filter_of kind.Number (only (is 5 ∷ []) []) ≡ true }
+    ensures unmarked { is_filter_of kind.Day (only (test.Today ∷ []) []) ≡ false }
 {}

@@ -21,7 +21,10 @@ mod schema;
 pub use answer::{Answer, GivenRow, GroupRow, KeyValue, Pair, Partial, Reply, Route, RouteFrom};
 pub use bound::{Bound, Plan, Query, Sort};
 pub use calendar::{day_of_moment, from_year_one, month_of, month_start, year_of, year_start};
-pub use examples::{expressions_are_computed, filters_pass_values, timeframes_are_computed};
+pub use examples::{
+    cells_and_shapes_are_told_apart, expressions_are_computed, filters_pass_values,
+    timeframes_are_computed,
+};
 pub use explore::{
     Explore, Field, Join, JoinKind, Measure, Op, Origin, Part, Relation, Rollup, Shape,
 };

@@ -10,8 +10,8 @@ returns-clause-cross_with_condition c = refl
 pub returns-clause-any_order : goal.returns-clause-any_order
 returns-clause-any_order c = refl
 
-pub returns-clause-fanned_in_any_order : goal.returns-clause-fanned_in_any_order
-returns-clause-fanned_in_any_order c = refl
+pub returns-clause-once_each : goal.returns-clause-once_each
+returns-clause-once_each c = refl
 
 pub returns-clause-by_name : goal.returns-clause-by_name
 returns-clause-by_name c = refl
