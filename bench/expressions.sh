@@ -1,7 +1,7 @@
 #!/bin/sh
 # Times `eval` of `${a} * 2 + ${b} > 100 AND ${s} LIKE '%x%'` on 1,000,000 rows, and a plain Rust program that evaluates the
 # same tree. A measurement, not a test: it builds a program in a folder of its own, which proves it first.
-crates='lk_val lk_types lk_time lk_eval'
+crates='lk_val lk_postfix lk_types lk_time lk_eval'
 uses='lk_val lk_types lk_eval'
 . "$(dirname "$0")/workspace.sh"
 cat >"$work/crates/timing/src/main.rt" <<'END'
@@ -19,35 +19,23 @@ const ROWS: u32 = 1_000;
 
 const ROUNDS: u32 = 1_000;
 
-fn number(count: i64) -> Node {
-    Node::Literal(Value::Num(Num(count)))
+fn number(alloc: Global, count: i64) -> Result<Expr, NoMemory> {
+    Expr::leaf(alloc, Node::Literal(Value::Num(Num(count))))
 }
 
 fn condition(alloc: Global) -> Result<Expr, NoMemory> {
-    let twice = Node::Number(
-        Arithmetic::Times,
-        Box::new(alloc, Node::Column(0, 0))?,
-        Box::new(alloc, number(20_000))?,
-    );
-    let sum = Node::Number(
-        Arithmetic::Plus,
-        Box::new(alloc, twice)?,
-        Box::new(alloc, Node::Column(0, 1))?,
-    );
-    let more = Node::Compare(
-        Comparison::Greater,
-        Box::new(alloc, sum)?,
-        Box::new(alloc, number(1_000_000))?,
-    );
+    let a = Expr::leaf(alloc, Node::Column(0, 0))?;
+    let b = Expr::leaf(alloc, Node::Column(0, 1))?;
+    let s = Expr::leaf(alloc, Node::Column(0, 2))?;
+    let twice = Expr::binary(Node::Number(Arithmetic::Times), a, number(alloc, 20_000)?)?;
+    let sum = Expr::binary(Node::Number(Arithmetic::Plus), twice, b)?;
+    let more = Expr::binary(Node::Compare(Comparison::Greater), sum, number(alloc, 1_000_000)?)?;
     let mut pieces = Items::new(alloc);
     pieces.push(Piece::Any)?;
     pieces.push(Piece::Byte(b'x'))?;
     pieces.push(Piece::Any)?;
-    let like = Node::Like(Box::new(alloc, Node::Column(0, 2))?, pieces);
-    Ok(Expr::new(Node::And(
-        Box::new(alloc, more)?,
-        Box::new(alloc, like)?,
-    )))
+    let like = Expr::unary(Node::Like(pieces), s)?;
+    Expr::binary(Node::And, more, like)
 }
 
 fn rows(alloc: Global) -> Result<Vec<Joined>, NoMemory> {

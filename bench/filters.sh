@@ -1,7 +1,7 @@
 #!/bin/sh
 # Times `passes` on 1,000,000 values and filters of five tests, one kind of value after the other, and a plain Rust program
 # with the same tests. A measurement, not a test: it builds a program in a folder of its own, which proves it first.
-crates='lk_val lk_types lk_grammar lk_filter_number lk_filter_text lk_filter_date lk_filter'
+crates='lk_val lk_postfix lk_types lk_grammar lk_filter_number lk_filter_text lk_filter_date lk_filter'
 uses='lk_val lk_types lk_filter'
 . "$(dirname "$0")/workspace.sh"
 cat >"$work/crates/timing/src/main.rt" <<'END'

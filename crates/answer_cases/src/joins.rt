@@ -139,9 +139,7 @@ fn equation(alloc: Global, left: u32) -> Result<Expr, Wrong>
     ensures { IfOk result (λ expr. is_condition_dated (Some expr) ≡ true) }
 {
     let right = left.checked_add(1).ok_or(Wrong::Case)?;
-    Ok(Expr::new(Node::Compare(
-        Comparison::Equal,
-        Box::new(alloc, Node::Column(left, 0))?,
-        Box::new(alloc, Node::Column(right, 0))?,
-    )))
+    let left = Expr::leaf(alloc, Node::Column(left, 0))?;
+    let right = Expr::leaf(alloc, Node::Column(right, 0))?;
+    Ok(Expr::binary(Node::Compare(Comparison::Equal), left, right)?)
 }

@@ -90,26 +90,26 @@ fn nested(alloc: Global, depth: u32, open: &str, close: &str) -> Result<String, 
 }
 
 fn tree_answer(alloc: Global, text: &str) -> Result<String, Refused> {
-    let e = read_expr(alloc, text.as_bytes())?;
-    let mut out = String::new(alloc);
-    show(&mut out, &e)?;
-    Ok(out)
+    Ok(show(alloc, &read_expr(alloc, text.as_bytes())?)?)
 }
 
 fn kind_answer(alloc: Global, text: &str) -> Result<String, Refused> {
     let e = resolve(alloc, text.as_bytes())?;
-    Ok(words(alloc, kind_name(kind_of(&e, &leaves(alloc)?)))?)
+    match kind_of(alloc, &e, &leaves(alloc)?) {
+        Ok(kind) => Ok(words(alloc, kind_name(kind))?),
+        Err(Clash::E3) => Ok(words(alloc, "clash")?),
+        Err(Clash::NoMemory) => Err(Refused::from(NoMemory)),
+    }
 }
 
-fn kind_name(kind: Result<Option<Kind>, Clash>) -> &'static str {
+fn kind_name(kind: Option<Kind>) -> &'static str {
     match kind {
-        Err(Clash) => "clash",
-        Ok(None) => "open",
-        Ok(Some(Kind::Text)) => "text",
-        Ok(Some(Kind::Number)) => "number",
-        Ok(Some(Kind::Truth)) => "truth",
-        Ok(Some(Kind::Day)) => "day",
-        Ok(Some(Kind::Moment)) => "moment",
+        None => "open",
+        Some(Kind::Text) => "text",
+        Some(Kind::Number) => "number",
+        Some(Kind::Truth) => "truth",
+        Some(Kind::Day) => "day",
+        Some(Kind::Moment) => "moment",
     }
 }
 

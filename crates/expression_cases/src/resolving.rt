@@ -2,95 +2,60 @@ use crate::names::{frame_of, named};
 use crate::refused::Refused;
 use lk_expr::{read_expr, read_pattern};
 use lk_expr_token::{Function, function_of};
-use lk_expr_tree::{Joint, RawArgs, RawBranches, RawExpr};
-use lk_types::{Args, Arithmetic, Branches, Expr, Node};
-use lk_val::{Bytes, NoMemory, Num, Value, as_text};
+use lk_expr_tree::{Joint, RawNode};
+use lk_types::{Arithmetic, Expr, Frame, Node};
+use lk_val::{Bytes, Items, Num, Value, as_text};
 use std::alloc::Global;
 
 /// The expression of a text over the names of the cases; `${day.week}` is a timeframe of what a name stands for.
 pub fn resolve(alloc: Global, text: &[u8]) -> Result<Expr, Refused> {
     let e = read_expr(alloc, text)?;
-    Ok(Expr::new(node_of(alloc, &e)?))
+    let mut nodes = Items::new(alloc);
+    for node in e.nodes() {
+        resolve_node(alloc, &mut nodes, node)?;
+    }
+    Expr::from_nodes(nodes).ok_or(Refused::Name)
 }
 
-#[cycle(resolve)]
-fn node_of(alloc: Global, e: &RawExpr) -> Result<Node, Refused> {
-    Ok(match e {
-        RawExpr::Number(number) => Node::Literal(number_of(number)),
-        RawExpr::Text(text) => Node::Literal(Value::Text(text.copy(alloc)?)),
-        RawExpr::Truth(truth) => Node::Literal(Value::Truth(*truth)),
-        RawExpr::Null => Node::Literal(Value::Null),
-        RawExpr::Name(name, _) => name_node(alloc, name)?,
-        RawExpr::FieldOf(name, frame) => framed(alloc, name, frame)?,
-        RawExpr::Column(_) | RawExpr::Field(_) => return Err(Refused::Name),
-        RawExpr::Group(a) => node_of(alloc, a)?,
-        RawExpr::Negate(a) => Node::Negate(boxed(alloc, a)?),
-        RawExpr::Not(a) => Node::Not(boxed(alloc, a)?),
-        RawExpr::Chain(joint, a, b) => joined(*joint, boxed(alloc, a)?, boxed(alloc, b)?),
-        RawExpr::Compare(c, a, b) => Node::Compare(*c, boxed(alloc, a)?, boxed(alloc, b)?),
-        RawExpr::IsNull(negated, a) => denied(alloc, *negated, Node::IsNull(boxed(alloc, a)?))?,
-        RawExpr::In(negated, a, all) => {
-            let all = args_of(alloc, all, Args::End)?;
-            let test = Node::In(boxed(alloc, a)?, Box::new(alloc, all)?);
-            denied(alloc, *negated, test)?
+// Adds what a node stands for: a pair of brackets nothing, and a test that is denied two nodes.
+fn resolve_node(alloc: Global, nodes: &mut Items<Node>, node: &RawNode) -> Result<(), Refused> {
+    match node {
+        RawNode::Number(number) => add(nodes, Node::Literal(number_of(number))),
+        RawNode::Text(text) => add(nodes, Node::Literal(Value::Text(text.copy(alloc)?))),
+        RawNode::Truth(truth) => add(nodes, Node::Literal(Value::Truth(*truth))),
+        RawNode::Null => add(nodes, Node::Literal(Value::Null)),
+        RawNode::Name(name, _) => add(nodes, name_node(alloc, name)?),
+        RawNode::FieldOf(name, frame) => {
+            add(nodes, name_node(alloc, name)?)?;
+            add(nodes, Node::Framed(frame_named(frame)?))
         }
-        RawExpr::Between(negated, a, low, high) => {
-            let test = Node::Between(boxed(alloc, a)?, boxed(alloc, low)?, boxed(alloc, high)?);
-            denied(alloc, *negated, test)?
+        RawNode::Column(_) | RawNode::Field(_) => Err(Refused::Name),
+        RawNode::Group => Ok(()),
+        RawNode::Negate => add(nodes, Node::Negate),
+        RawNode::Not => add(nodes, Node::Not),
+        RawNode::Chain(joint) => add(nodes, joined(*joint)),
+        RawNode::Compare(comparison) => add(nodes, Node::Compare(*comparison)),
+        RawNode::IsNull(negated) => add_test(nodes, *negated, Node::IsNull),
+        RawNode::In(negated, count) => add_test(nodes, *negated, Node::In(*count)),
+        RawNode::Between(negated) => add_test(nodes, *negated, Node::Between),
+        RawNode::Like(negated, pattern) => {
+            add_test(nodes, *negated, Node::Like(read_pattern(alloc, pattern)?))
         }
-        RawExpr::Like(negated, a, pattern) => {
-            let test = Node::Like(boxed(alloc, a)?, read_pattern(alloc, pattern)?);
-            denied(alloc, *negated, test)?
-        }
-        RawExpr::Call(name, _, all) => {
-            let all = args_of(alloc, all, Args::End)?;
-            called(alloc, function_of(name.as_slice()), all)?
-        }
-        RawExpr::Case(cases) => case(alloc, branches_of(alloc, cases, Branches::End)?)?,
-        RawExpr::CaseElse(cases, a) => {
-            let end = Branches::Else(boxed(alloc, a)?);
-            case(alloc, branches_of(alloc, cases, end)?)?
-        }
-    })
-}
-
-#[cycle(resolve)]
-fn boxed(alloc: Global, e: &RawExpr) -> Result<Box<Node>, Refused> {
-    Ok(Box::new(alloc, node_of(alloc, e)?)?)
-}
-
-// The arguments before the others.
-#[cycle(resolve)]
-fn args_of(alloc: Global, all: &RawArgs, behind: Args) -> Result<Args, Refused> {
-    match all {
-        RawArgs::One(a) => Ok(Args::More(boxed(alloc, a)?, Box::new(alloc, behind)?)),
-        RawArgs::More(all, a) => {
-            let behind = Args::More(boxed(alloc, a)?, Box::new(alloc, behind)?);
-            args_of(alloc, all, behind)
-        }
+        RawNode::Call(name, _, count) => add(nodes, called(name, *count)?),
+        RawNode::Case(count) | RawNode::CaseElse(count) => add(nodes, Node::Case(*count)),
     }
 }
 
-// The branches before the others.
-#[cycle(resolve)]
-fn branches_of(alloc: Global, cases: &RawBranches, behind: Branches) -> Result<Branches, Refused> {
-    match cases {
-        RawBranches::When(c, a) => {
-            Ok(Branches::When(boxed(alloc, c)?, boxed(alloc, a)?, Box::new(alloc, behind)?))
-        }
-        RawBranches::More(cases, c, a) => {
-            let behind = Branches::When(
-                boxed(alloc, c)?,
-                boxed(alloc, a)?,
-                Box::new(alloc, behind)?,
-            );
-            branches_of(alloc, cases, behind)
-        }
-    }
+fn add(nodes: &mut Items<Node>, node: Node) -> Result<(), Refused> {
+    Ok(nodes.push(node)?)
 }
 
-fn case(alloc: Global, cases: Branches) -> Result<Node, NoMemory> {
-    Ok(Node::Case(Box::new(alloc, cases)?))
+fn add_test(nodes: &mut Items<Node>, negated: bool, test: Node) -> Result<(), Refused> {
+    nodes.push(test)?;
+    if negated {
+        nodes.push(Node::Not)?;
+    }
+    Ok(())
 }
 
 fn number_of(number: &Bytes) -> Value {
@@ -107,47 +72,32 @@ fn name_node(alloc: Global, name: &Bytes) -> Result<Node, Refused> {
     }
 }
 
-fn framed(alloc: Global, name: &Bytes, frame: &Bytes) -> Result<Node, Refused> {
-    let node = name_node(alloc, name)?;
-    match as_text(frame.as_slice()) {
-        Some(frame) => match frame_of(frame) {
-            Some(frame) => Ok(Node::Framed(frame, Box::new(alloc, node)?)),
-            None => Err(Refused::Name),
-        },
+fn frame_named(name: &Bytes) -> Result<Frame, Refused> {
+    match as_text(name.as_slice()) {
+        Some(name) => frame_of(name).ok_or(Refused::Name),
         None => Err(Refused::Name),
     }
 }
 
-fn denied(alloc: Global, negated: bool, test: Node) -> Result<Node, NoMemory> {
-    if negated {
-        Ok(Node::Not(Box::new(alloc, test)?))
-    } else {
-        Ok(test)
-    }
-}
-
-fn joined(joint: Joint, a: Box<Node>, b: Box<Node>) -> Node {
+fn joined(joint: Joint) -> Node {
     match joint {
-        Joint::Or => Node::Or(a, b),
-        Joint::And => Node::And(a, b),
-        Joint::Plus => Node::Number(Arithmetic::Plus, a, b),
-        Joint::Minus => Node::Number(Arithmetic::Minus, a, b),
-        Joint::Times => Node::Number(Arithmetic::Times, a, b),
-        Joint::Over => Node::Number(Arithmetic::Over, a, b),
-        Joint::Concat => Node::Concat(a, b),
+        Joint::Or => Node::Or,
+        Joint::And => Node::And,
+        Joint::Plus => Node::Number(Arithmetic::Plus),
+        Joint::Minus => Node::Number(Arithmetic::Minus),
+        Joint::Times => Node::Number(Arithmetic::Times),
+        Joint::Over => Node::Number(Arithmetic::Over),
+        Joint::Concat => Node::Concat,
     }
 }
 
 // The call of a function, whose number of arguments the reader has tested.
-fn called(alloc: Global, function: Option<Function>, all: Args) -> Result<Node, Refused> {
-    match (function, all) {
-        (Some(Function::Coalesce), all) => Ok(Node::Coalesce(Box::new(alloc, all)?)),
-        (Some(Function::Lower), Args::More(a, _)) => Ok(Node::Lower(a)),
-        (Some(Function::Upper), Args::More(a, _)) => Ok(Node::Upper(a)),
-        (Some(Function::NullIf), Args::More(a, rest)) => match Box::into_inner(rest) {
-            Args::More(b, _) => Ok(Node::NullIf(a, b)),
-            Args::End => Err(Refused::Name),
-        },
-        _ => Err(Refused::Name),
+fn called(name: &Bytes, count: usize) -> Result<Node, Refused> {
+    match function_of(name.as_slice()) {
+        Some(Function::Coalesce) => Ok(Node::Coalesce(count)),
+        Some(Function::Lower) => Ok(Node::Lower),
+        Some(Function::Upper) => Ok(Node::Upper),
+        Some(Function::NullIf) => Ok(Node::NullIf),
+        None => Err(Refused::Name),
     }
 }

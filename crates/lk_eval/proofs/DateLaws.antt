@@ -66,14 +66,14 @@ framed-dated frame.Quarter v n s is h t =
 framed-dated frame.Year v n s is h t = let from = (year_of-IsInYear n).from in day_at-dated (year_start (year_of n)) (omega arith)
 framed-dated f v n s is h t = refl
 
-timeframe-dated : (f : Frame) (v : Value) → is_dated v ≡ true → is_dated (timeframe_of f v) ≡ true
+pub timeframe-dated : (f : Frame) (v : Value) → is_dated v ≡ true → is_dated (timeframe_of f v) ≡ true
 timeframe-dated f (value.Day d) is = framed-dated f (value.Day d) (from_year_one d) 0 is (from_year_one-bound d (day_dated d is)) (omega arith)
 timeframe-dated f (value.Moment m) is =
     framed-dated f (value.Moment m) (from_year_one (day_of_moment m)) (second_of_moment m) is
     (from_year_one-bound (day_of_moment m) (day_of_moment-range m (day_of_moment-dated m is))) (second_of_moment-bound m)
 timeframe-dated f v is = refl
 
-truth-dated : (o : Option Bool) → is_dated (value_of_truth o) ≡ true
+pub truth-dated : (o : Option Bool) → is_dated (value_of_truth o) ≡ true
 truth-dated None = refl
 truth-dated (Some b) = refl
 
@@ -81,40 +81,40 @@ num-dated : (o : Option Num) → is_dated (value_of_num o) ≡ true
 num-dated None = refl
 num-dated (Some n) = refl
 
-arithmetic-dated : (op : Arithmetic) (v w : Value) → is_dated (apply op v w) ≡ true
+pub arithmetic-dated : (op : Arithmetic) (v w : Value) → is_dated (apply op v w) ≡ true
 arithmetic-dated op (value.Num x) (value.Num y) = num-dated (computed op x y)
 arithmetic-dated op v w = refl
 
-negated-dated : (v : Value) → is_dated (negated v) ≡ true
+pub negated-dated : (v : Value) → is_dated (negated v) ≡ true
 negated-dated (value.Num x) = num-dated _
 negated-dated v = refl
 
-choice-dated : (b : Bool) (v w : Value) → is_dated v ≡ true → is_dated w ≡ true → is_dated (if b then v else w) ≡ true
+pub choice-dated : (b : Bool) (v w : Value) → is_dated v ≡ true → is_dated w ≡ true → is_dated (if b then v else w) ≡ true
 choice-dated true v w p q = p
 choice-dated false v w p q = q
 
-concat-dated : (v w : Value) → is_dated (joined_text v w) ≡ true
+pub concat-dated : (v w : Value) → is_dated (joined_text v w) ≡ true
 concat-dated (value.Text x) (value.Text y) = choice-dated _ (value.Text (x ++ y)) value.Null refl refl
 concat-dated v w = refl
 
-letters-dated : (f : List ℕ → List ℕ) (v : Value) → is_dated (on_text f v) ≡ true
+pub letters-dated : (f : List ℕ → List ℕ) (v : Value) → is_dated (on_text f v) ≡ true
 letters-dated f (value.Text x) = refl
 letters-dated f v = refl
 
-and_left : (a b : Bool) → (a && b) ≡ true → a ≡ true
+pub and_left : (a b : Bool) → (a && b) ≡ true → a ≡ true
 and_left true b h = refl
 and_left false b h = h
 
-and_right : (a b : Bool) → (a && b) ≡ true → b ≡ true
+pub and_right : (a b : Bool) → (a && b) ≡ true → b ≡ true
 and_right true b h = h
 and_right false b h = absurd (false≢true h)
 
-cell-dated : (cells : List Value) (c : ℕ) → list_all is_dated cells ≡ true → is_dated (slice_index_or cells c value.Null) ≡ true
+pub cell-dated : (cells : List Value) (c : ℕ) → list_all is_dated cells ≡ true → is_dated (slice_index_or cells c value.Null) ≡ true
 cell-dated [] c h = refl
 cell-dated (v ∷ vs) zero h = and_left (is_dated v) (list_all is_dated vs) h
 cell-dated (v ∷ vs) (suc c) h = cell-dated vs c (and_right (is_dated v) (list_all is_dated vs) h)
 
-part-dated : (parts : List (Option (List Value))) (p c : ℕ) → list_all is_part_dated parts ≡ true → is_dated (value_in (slice_get parts p) c) ≡ true
+pub part-dated : (parts : List (Option (List Value))) (p c : ℕ) → list_all is_part_dated parts ≡ true → is_dated (value_in (slice_get parts p) c) ≡ true
 part-dated [] p c h = refl
 part-dated (None ∷ parts) zero c h = refl
 part-dated (Some cells ∷ parts) zero c h = cell-dated cells c (and_left (list_all is_dated cells) (list_all is_part_dated parts) h)

@@ -1,3 +1,6 @@
+pub mod ValueSteps
+pub mod KindSteps
+pub mod NodeLaws
 pub mod LetterLaws
 pub mod KindLaws
 pub mod FrameSteps

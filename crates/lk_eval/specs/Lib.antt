@@ -1,2 +1,4 @@
 pub mod Operands
 pub mod Patterns
+pub mod NodeValues
+pub mod NodeKinds

@@ -1,8 +1,7 @@
 ghost use Rattle.std.specs.Prelude.{◌≡◌};
 ghost use Rattle.lk_val.specs.Values.{value_cmp, is_null};
-ghost use Rattle.lk_types.specs.Expressions.{beside, compared, holds, null_if};
+ghost use Rattle.lk_types.specs.Expressions.{beside, compared, holds};
 
-use crate::truth::is_yes;
 use lk_types::Comparison;
 use lk_val::{Value, cmp_value};
 use std::cmp::Ordering;
@@ -18,17 +17,6 @@ pub(crate) fn compared(comparison: Comparison, a: &Value, b: &Value) -> Option<b
         return None;
     }
     Some(holds(comparison, cmp_beside(a, b)))
-}
-
-// Null where the two are equal, and else the first.
-pub(crate) fn null_if(a: Value, b: &Value) -> Value
-    ensures { result ≡ null_if a b.now }
-{
-    if is_yes(compared(Comparison::Equal, &a, b)) {
-        Value::Null
-    } else {
-        a
-    }
 }
 
 // Whether a value is null.

@@ -1,10 +1,10 @@
 ghost use Rattle.std.specs.Prelude.{◌≡◌};
 ghost use Rattle.std.specs.List.{list_all};
-ghost use Rattle.lk_types.specs.FormulaCode.{formula_of, formulas_of, cases_of};
-ghost use Rattle.lk_types.specs.Dates.{is_dated, is_part_dated, is_row_dated, are_literals_dated, are_all_dated, are_cases_dated};
+ghost use Rattle.lk_types.specs.Dates.{is_dated, is_part_dated, is_row_dated, are_literals_dated};
+ghost use Rattle.lk_eval.specs.NodeValues.{is_node_dated};
 
 use lk_time::is_in_years;
-use lk_types::{Args, Branches, Expr, Joined, Node};
+use lk_types::{Expr, Joined, Node};
 use lk_val::{Items, Value};
 
 /// Whether each day and moment of a joined row's cells is of the years 1 to 9999, as `eval` wants them.
@@ -18,7 +18,22 @@ pub fn is_row_dated(row: &Joined) -> bool
 pub fn are_literals_dated(e: &Expr) -> bool
     ensures { result ≡ are_literals_dated e.now }
 {
-    is_node_dated(e.node())
+    are_nodes_dated(e.nodes())
+}
+
+fn are_nodes_dated(nodes: &[Node]) -> bool
+    ensures { result ≡ list_all is_node_dated nodes.now }
+{
+    nodes.iter().all(|node| is_node_dated(node))
+}
+
+fn is_node_dated(node: &Node) -> bool
+    ensures { result ≡ is_node_dated node.now }
+{
+    match node {
+        Node::Literal(v) => is_dated(v),
+        _ => true,
+    }
 }
 
 fn is_part_dated(part: &Option<Items<Value>>) -> bool
@@ -42,57 +57,5 @@ fn is_dated(v: &Value) -> bool
     match v {
         Value::Day(_) | Value::Moment(_) => is_in_years(v),
         _ => true,
-    }
-}
-
-#[cycle(dated)]
-fn is_node_dated(node: &Node) -> bool
-    ensures { result ≡ are_literals_dated (formula_of node.now) }
-{
-    match node {
-        Node::Column(_, _) => true,
-        Node::Literal(v) => is_dated(v),
-        Node::Framed(_, a) => is_node_dated(a),
-        Node::Not(a) => is_node_dated(a),
-        Node::And(a, b) => is_node_dated(a) && is_node_dated(b),
-        Node::Or(a, b) => is_node_dated(a) && is_node_dated(b),
-        Node::Compare(_, a, b) => is_node_dated(a) && is_node_dated(b),
-        Node::IsNull(a) => is_node_dated(a),
-        Node::In(a, all) => is_node_dated(a) && are_args_dated(all),
-        Node::Between(a, low, high) => {
-            is_node_dated(a) && (is_node_dated(low) && is_node_dated(high))
-        }
-        Node::Like(a, _) => is_node_dated(a),
-        Node::Number(_, a, b) => is_node_dated(a) && is_node_dated(b),
-        Node::Negate(a) => is_node_dated(a),
-        Node::Concat(a, b) => is_node_dated(a) && is_node_dated(b),
-        Node::Case(cases) => are_branches_dated(cases),
-        Node::Coalesce(all) => are_args_dated(all),
-        Node::NullIf(a, b) => is_node_dated(a) && is_node_dated(b),
-        Node::Lower(a) => is_node_dated(a),
-        Node::Upper(a) => is_node_dated(a),
-    }
-}
-
-#[cycle(dated)]
-fn are_args_dated(all: &Args) -> bool
-    ensures { result ≡ are_all_dated (formulas_of all.now) }
-{
-    match all {
-        Args::End => true,
-        Args::More(a, rest) => is_node_dated(a) && are_args_dated(rest),
-    }
-}
-
-#[cycle(dated)]
-fn are_branches_dated(cases: &Branches) -> bool
-    ensures { result ≡ are_cases_dated (cases_of cases.now) }
-{
-    match cases {
-        Branches::End => true,
-        Branches::Else(a) => is_node_dated(a),
-        Branches::When(c, a, rest) => {
-            is_node_dated(c) && (is_node_dated(a) && are_branches_dated(rest))
-        }
     }
 }

@@ -2,7 +2,9 @@
 #![tactic(auto)]
 
 mod arithmetic;
+mod choices;
 mod comparison;
+mod conditions;
 mod dated;
 mod evaluation;
 mod framed;

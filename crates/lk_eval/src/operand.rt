@@ -1,7 +1,9 @@
-ghost use Rattle.std.specs.Prelude.{◌≡◌};
+ghost use Rattle.std.specs.Prelude.{◌≡◌, ◌<◌, IfOk, length, map};
+ghost use Rattle.lk_eval.specs.NodeValues.{operand};
 ghost use Rattle.lk_eval.specs.Operands.{operand_value};
 
-use lk_val::Value;
+use lk_val::{NoMemory, Value};
+use std::alloc::Global;
 
 // The value of a part of an expression: that of a column or a literal is borrowed.
 #[derive(Drop)]
@@ -19,4 +21,22 @@ impl<'a> Operand<'a> {
             Operand::Made(v) => v,
         }
     }
+
+    // The same value: a borrowed one is borrowed again.
+    pub(crate) fn again(&self, alloc: Global) -> Result<Operand<'a>, NoMemory>
+        ensures { IfOk result (λ operand. operand_value operand ≡ operand_value self.now) }
+    {
+        Ok(match self {
+            Operand::Held(v) => Operand::Held(v),
+            Operand::Made(v) => Operand::Made(v.copy(alloc)?),
+        })
+    }
+}
+
+// The value of an operand by its place.
+pub(crate) fn nth<'s>(operands: &'s [Operand<'_>], place: usize) -> &'s Value
+    requires { place < length operands.now }
+    ensures { result.now ≡ operand (map operand_value operands.now) place }
+{
+    operands[place].value()
 }

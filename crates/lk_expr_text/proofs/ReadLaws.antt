@@ -6,7 +6,7 @@ use Rattle.std.proofs.lemmas.Option.{same_Some}
 use Rattle.std.proofs.lemmas.Result.{IfOk-weaker}
 use Rattle.std.proofs.lemmas.List.{append-nil}
 use Rattle.lk_expr_token.specs.declared.token.Token.{Token}
-use Rattle.lk_expr_tree.specs.declared.raw.RawExpr.{RawExpr}
+use Rattle.lk_expr_tree.specs.declared.expr.RawExpr.{RawExpr}
 use Rattle.lk_expr_token.specs.Tokens.{IsSpelled}
 use Rattle.lk_expr_tree.specs.Grammar.{Tree, print, level_of, is_built, IsExprText}
 use Rattle.lk_expr_tree.specs.RawCode.{tree_of}

@@ -6,9 +6,9 @@ ghost use Rattle.lk_expr_text.specs.declared.parser.Nest.TheVariants as nest;
 
 use lk_expr_token::{Keyword, Sign, Token};
 use lk_expr_tree::{
-    Joint, Parsed, ParsedArgs, ParsedBranch, ParsedBranches, RawExpr, called, compared, denied,
-    ended, ended_else, first_arg, first_branch, grouped, joined, leaf, liked, listed, next_arg,
-    next_branch, null_test, upto, valued, with_sign,
+    Joint, Parsed, ParsedArgs, ParsedBranch, ParsedBranches, RawExpr, bare_name, called, compared,
+    denied, ended, ended_else, first_arg, first_branch, grouped, joined, leaf, liked, listed,
+    next_arg, next_branch, null_test, upto, valued, with_sign,
 };
 use lk_val::{Bytes, NoMemory};
 use std::alloc::Global;
@@ -94,7 +94,7 @@ pub(crate) fn parse_chain<'a>(
             return Ok(Some((tree, rest)));
         };
         let operand = parse_operand(alloc, left, precedence, behind_first(rest))?;
-        found = joined(alloc, joint, tree, operand)?;
+        found = joined(joint, tree, operand)?;
     }
     Ok(None)
 }
@@ -137,7 +137,7 @@ fn parse_not<'a>(alloc: Global, left: u8, tokens: &'a [Token]) -> Result<Parsed<
     ensures { IfOk result (λ found. parsed found ≡ not_in (below left) tokens.now) }
 {
     match after_not(tokens) {
-        Some(behind) => denied(alloc, parse_below(alloc, left, Nest::Negation, behind)?),
+        Some(behind) => denied(parse_below(alloc, left, Nest::Negation, behind)?),
         None => {
             let found = parse_chain(alloc, left, Precedence::Sum, tokens)?;
             parse_tested(alloc, left, found)
@@ -177,9 +177,9 @@ fn parse_test<'a>(
     match tokens.split_first() {
         Some((Token::Compare(comparison), behind)) => {
             let other = parse_chain(alloc, left, Precedence::Sum, behind)?;
-            compared(alloc, *comparison, tree, other)
+            compared(*comparison, tree, other)
         }
-        Some((Token::Word(Keyword::Is), behind)) => null_test(alloc, tree, behind),
+        Some((Token::Word(Keyword::Is), behind)) => null_test(tree, behind),
         Some((Token::Word(Keyword::Not), behind)) => {
             parse_choice(alloc, left, true, tree, behind)
         }
@@ -207,7 +207,7 @@ fn parse_choice<'a>(
         Some((Token::Word(Keyword::In), behind)) => match behind.split_first() {
             Some((Token::Sign(Sign::Open), inside)) => {
                 let args = parse_args(alloc, left, Item::Sum, inside)?;
-                listed(alloc, negated, tree, args)
+                listed(negated, tree, args)
             }
             _ => Ok(None),
         },
@@ -236,7 +236,7 @@ fn parse_bounds<'a>(
     match behind.split_first() {
         Some((Token::Word(Keyword::And), upper)) => {
             let high = parse_chain(alloc, left, Precedence::Sum, upper)?;
-            upto(alloc, negated, tree, low, high)
+            upto(negated, tree, low, high)
         }
         _ => Ok(None),
     }
@@ -268,7 +268,7 @@ fn parse_args<'a>(
     ensures { IfOk result (λ found. parsed_args found ≡ args_in (item_in (below left) item) tokens.now) }
 {
     let first = parse_item(alloc, left, item, tokens)?;
-    let mut found = first_arg(alloc, first)?;
+    let mut found = first_arg(first);
     for _used in tokens {
         let Some((args, rest)) = found else {
             return Ok(None);
@@ -277,7 +277,7 @@ fn parse_args<'a>(
             return Ok(Some((args, rest)));
         };
         let next = parse_item(alloc, left, item, behind)?;
-        found = next_arg(alloc, args, next)?;
+        found = next_arg(args, next)?;
     }
     Ok(None)
 }
@@ -334,7 +334,7 @@ fn parse_branches<'a>(
         return Ok(None);
     };
     let first = parse_branch(alloc, left, inside)?;
-    let mut found = first_branch(alloc, first)?;
+    let mut found = first_branch(first)?;
     for _used in inside {
         let Some((branches, rest)) = found else {
             return Ok(None);
@@ -343,7 +343,7 @@ fn parse_branches<'a>(
             return Ok(Some((branches, rest)));
         };
         let next = parse_branch(alloc, left, behind)?;
-        found = next_branch(alloc, branches, next)?;
+        found = next_branch(branches, next)?;
     }
     Ok(None)
 }
@@ -357,10 +357,10 @@ fn parse_case<'a>(alloc: Global, left: u8, tokens: &'a [Token]) -> Result<Parsed
         return Ok(None);
     };
     match behind.split_first() {
-        Some((Token::Word(Keyword::End), rest)) => ended(alloc, branches, rest),
+        Some((Token::Word(Keyword::End), rest)) => ended(branches, rest),
         Some((Token::Word(Keyword::Else), behind)) => {
             let other = parse_below(alloc, left, Nest::Whole, behind)?;
-            ended_else(alloc, branches, other)
+            ended_else(branches, other)
         }
         _ => Ok(None),
     }
@@ -372,7 +372,7 @@ fn parse_unary<'a>(alloc: Global, left: u8, tokens: &'a [Token]) -> Result<Parse
 {
     match tokens.split_first() {
         Some((Token::Sign(Sign::Minus), behind)) => {
-            with_sign(alloc, parse_below(alloc, left, Nest::Sign, behind)?)
+            with_sign(parse_below(alloc, left, Nest::Sign, behind)?)
         }
         _ => parse_atom(alloc, left, tokens),
     }
@@ -387,7 +387,7 @@ fn parse_atom<'a>(alloc: Global, left: u8, tokens: &'a [Token]) -> Result<Parsed
         Some((Token::Name(name, place), rest)) => parse_named(alloc, left, name, *place, rest),
         Some((Token::Word(Keyword::Case), rest)) => parse_case(alloc, left, rest),
         Some((Token::Sign(Sign::Open), rest)) => {
-            grouped(alloc, parse_below(alloc, left, Nest::Whole, rest)?)
+            grouped(parse_below(alloc, left, Nest::Whole, rest)?)
         }
         Some((first, rest)) => leaf(alloc, first, rest),
         None => Ok(None),
@@ -410,6 +410,6 @@ fn parse_named<'a>(
             let args = parse_args(alloc, left, Item::Whole, inside)?;
             called(alloc, name, place, args)
         }
-        _ => Ok(Some((RawExpr::Name(name.copy(alloc)?, place), tokens))),
+        _ => bare_name(alloc, name, place, tokens),
     }
 }

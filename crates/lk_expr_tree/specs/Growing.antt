@@ -1,5 +1,5 @@
 -- Trees that grow by one step: each takes what was found in front of some tokens, and the tokens behind it.
-use Rattle.std.specs.Prelude.{ℕ, Bool, true, false, List, [], ◌∷◌, Option, Some, None}
+use Rattle.std.specs.Prelude.{ℕ, Bool, true, false, List, ◌∷◌, Option, Some, None}
 use Rattle.lk_types.specs.declared.expr.Comparison.{Comparison}
 use Rattle.lk_expr_token.specs.declared.token.Keyword.TheVariants as keyword
 use Rattle.lk_expr_token.specs.declared.token.Sign.TheVariants as sign

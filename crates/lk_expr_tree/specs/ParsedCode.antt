@@ -1,8 +1,8 @@
 -- What was read, without the addresses of boxes and slices.
 use Rattle.std.proofs.Common.{List, Option, Some, None, Bor}
-use Rattle.lk_expr_tree.specs.declared.raw.RawExpr.{RawExpr}
-use Rattle.lk_expr_tree.specs.declared.raw.RawArgs.{RawArgs}
-use Rattle.lk_expr_tree.specs.declared.raw.RawBranches.{RawBranches}
+use Rattle.lk_expr_tree.specs.declared.expr.RawExpr.{RawExpr}
+use Rattle.lk_expr_tree.specs.declared.expr.RawArgs.{RawArgs}
+use Rattle.lk_expr_tree.specs.declared.expr.RawBranches.{RawBranches}
 use Rattle.lk_expr_token.specs.declared.token.Token.{Token}
 use Rattle.lk_expr_tree.specs.RawCode.{tree_of, args_of, branches_of}
 use Rattle.lk_expr_tree.specs.Growing.{Parsed, ParsedArgs, ParsedBranches, Branch}

@@ -1,63 +1,44 @@
 ghost use Rattle.std.specs.Prelude.{◌≡◌};
-ghost use Rattle.lk_expr_tree.specs.RawCode.{tree_of, args_of, branches_of};
-ghost use Rattle.lk_expr_tree.specs.Calls.{has_one, has_two, is_taken, place_unless, unknown_among, unknown_branch, unknown_call};
+ghost use Rattle.lk_expr_tree.specs.RawCode.{tree_of};
+ghost use Rattle.lk_expr_tree.specs.Calls.{place_unless, unknown_call};
+ghost use Rattle.lk_expr_tree.specs.NodeCalls.{is_taken_count, unknown_node};
 
-use crate::raw::{RawArgs, RawBranches, RawExpr};
+use crate::expr::RawExpr;
+use crate::raw::RawNode;
 use lk_expr_token::{Function, function_of};
+use lk_postfix::TakesOperands;
 
 /// Where the name begins of the first call that is of no known function, or has not as many arguments as it takes: a
 /// byte of the text. COALESCE takes one or more, NULLIF two, LOWER and UPPER one. It takes no memory. (lookd)
 pub fn unknown_call(e: &RawExpr) -> Option<usize>
     ensures { result ≡ unknown_call (tree_of e.now) }
 {
-    first_unknown(e)
+    // From the last node on, a call comes before its arguments, and they come from the last one on. So a call that is
+    // met later stands further in front, but for the arguments of the one that was found: those are passed over.
+    let mut found = None;
+    let mut passed_over = 0;
+    let nodes = e.nodes();
+    for index in (0..nodes.len()).rev() {
+        let node = &nodes[index];
+        if passed_over > 0 {
+            passed_over = passed_over - 1 + node.arity();
+        } else if let Some(place) = unknown_node(node) {
+            found = Some(place);
+            passed_over = node.arity();
+        }
+    }
+    found
 }
 
-#[cycle(unknown)]
-fn first_unknown(e: &RawExpr) -> Option<usize>
-    ensures { result ≡ unknown_call (tree_of e.now) }
+// Where the node's own call stands, if it is unknown.
+fn unknown_node(node: &RawNode) -> Option<usize>
+    ensures { result ≡ unknown_node node.now }
 {
-    match e {
-        RawExpr::Group(a) => first_unknown(a),
-        RawExpr::Negate(a) => first_unknown(a),
-        RawExpr::Not(a) => first_unknown(a),
-        RawExpr::IsNull(_, a) => first_unknown(a),
-        RawExpr::Like(_, a, _) => first_unknown(a),
-        RawExpr::Chain(_, a, b) => first_unknown(a).or(first_unknown(b)),
-        RawExpr::Compare(_, a, b) => first_unknown(a).or(first_unknown(b)),
-        RawExpr::In(_, a, args) => first_unknown(a).or(unknown_among(args)),
-        RawExpr::Between(_, a, low, high) => {
-            first_unknown(a).or(first_unknown(low).or(first_unknown(high)))
-        }
-        RawExpr::Case(branches) => unknown_branch(branches),
-        RawExpr::CaseElse(branches, a) => unknown_branch(branches).or(first_unknown(a)),
-        RawExpr::Call(name, place, args) => {
-            let is_known = is_taken(function_of(name.as_slice()), args);
-            place_unless(is_known, *place).or(unknown_among(args))
+    match node {
+        RawNode::Call(name, place, count) => {
+            place_unless(is_taken(function_of(name.as_slice()), *count), *place)
         }
         _ => None,
-    }
-}
-
-#[cycle(unknown)]
-fn unknown_among(args: &RawArgs) -> Option<usize>
-    ensures { result ≡ unknown_among (args_of args.now) }
-{
-    match args {
-        RawArgs::One(a) => first_unknown(a),
-        RawArgs::More(args, a) => unknown_among(args).or(first_unknown(a)),
-    }
-}
-
-#[cycle(unknown)]
-fn unknown_branch(branches: &RawBranches) -> Option<usize>
-    ensures { result ≡ unknown_branch (branches_of branches.now) }
-{
-    match branches {
-        RawBranches::When(c, a) => first_unknown(c).or(first_unknown(a)),
-        RawBranches::More(branches, c, a) => {
-            unknown_branch(branches).or(first_unknown(c).or(first_unknown(a)))
-        }
     }
 }
 
@@ -67,31 +48,14 @@ fn place_unless(is_known: bool, place: usize) -> Option<usize>
     if is_known { None } else { Some(place) }
 }
 
-fn is_taken(function: Option<Function>, args: &RawArgs) -> bool
-    ensures { result ≡ is_taken function (args_of args.now) }
+// Whether a function takes so many arguments; a call has one at least.
+fn is_taken(function: Option<Function>, count: usize) -> bool
+    ensures { result ≡ is_taken_count function count }
 {
     match function {
         Some(Function::Coalesce) => true,
-        Some(Function::NullIf) => has_two(args),
-        Some(Function::Lower | Function::Upper) => has_one(args),
+        Some(Function::NullIf) => count == 2,
+        Some(Function::Lower | Function::Upper) => count < 2,
         None => false,
-    }
-}
-
-fn has_one(args: &RawArgs) -> bool
-    ensures { result ≡ has_one (args_of args.now) }
-{
-    match args {
-        RawArgs::One(_) => true,
-        RawArgs::More(_, _) => false,
-    }
-}
-
-fn has_two(args: &RawArgs) -> bool
-    ensures { result ≡ has_two (args_of args.now) }
-{
-    match args {
-        RawArgs::One(_) => false,
-        RawArgs::More(args, _) => has_one(args),
     }
 }

@@ -2,11 +2,12 @@
 
 ghost use Rattle.std.specs.Prelude.{◌≡◌, IfOk, Some};
 ghost use Rattle.lk_expr_tree.specs.RawCode.{tree_of, args_of, branches_of};
-ghost use Rattle.lk_expr_tree.specs.Grammar.{Case};
+ghost use Rattle.lk_expr_tree.specs.Grammar.{Case, Name};
 ghost use Rattle.lk_expr_tree.specs.ParsedCode.{parsed, parsed_args, parsed_branch, parsed_branches};
 ghost use Rattle.lk_expr_tree.specs.Growing.{called, compared, denied, ended_else, first_arg, first_branch, grouped, joined, leaf, liked, listed, next_arg, next_branch, null_test, upto, valued, with_sign};
 
-use crate::raw::{Joint, RawArgs, RawBranches, RawExpr};
+use crate::expr::{RawArgs, RawBranches, RawExpr};
+use crate::raw::{Joint, RawNode};
 use lk_expr_token::{Keyword, Sign, Token};
 use lk_types::Comparison;
 use lk_val::{Bytes, NoMemory};
@@ -25,43 +26,37 @@ pub type ParsedBranches<'a> = Option<(RawBranches, &'a [Token])>;
 pub type ParsedBranch<'a> = Option<(RawExpr, RawExpr, &'a [Token])>;
 
 /// A tree and what was found, as two that a sign or word joins.
-pub fn joined<'a>(
-    alloc: Global,
-    joint: Joint,
-    a: RawExpr,
-    found: Parsed<'a>,
-) -> Result<Parsed<'a>, NoMemory>
+pub fn joined<'a>(joint: Joint, a: RawExpr, found: Parsed<'a>) -> Result<Parsed<'a>, NoMemory>
     ensures { IfOk result (λ tree. parsed tree ≡ joined joint (tree_of a) (parsed found.entry)) }
 {
     let Some((b, rest)) = found else {
         return Ok(None);
     };
-    let (a, b) = (Box::new(alloc, a)?, Box::new(alloc, b)?);
-    Ok(Some((RawExpr::Chain(joint, a, b), rest)))
+    Ok(Some((RawExpr::binary(RawNode::Chain(joint), a, b)?, rest)))
 }
 
 /// NOT before what was found.
-pub fn denied(alloc: Global, found: Parsed<'_>) -> Result<Parsed<'_>, NoMemory>
+pub fn denied(found: Parsed<'_>) -> Result<Parsed<'_>, NoMemory>
     ensures { IfOk result (λ tree. parsed tree ≡ denied (parsed found.entry)) }
 {
     let Some((tree, rest)) = found else {
         return Ok(None);
     };
-    Ok(Some((RawExpr::Not(Box::new(alloc, tree)?), rest)))
+    Ok(Some((RawExpr::unary(RawNode::Not, tree)?, rest)))
 }
 
 /// A minus before what was found.
-pub fn with_sign(alloc: Global, found: Parsed<'_>) -> Result<Parsed<'_>, NoMemory>
+pub fn with_sign(found: Parsed<'_>) -> Result<Parsed<'_>, NoMemory>
     ensures { IfOk result (λ tree. parsed tree ≡ with_sign (parsed found.entry)) }
 {
     let Some((tree, rest)) = found else {
         return Ok(None);
     };
-    Ok(Some((RawExpr::Negate(Box::new(alloc, tree)?), rest)))
+    Ok(Some((RawExpr::unary(RawNode::Negate, tree)?, rest)))
 }
 
 /// What was found, in brackets: the closing one comes behind it.
-pub fn grouped(alloc: Global, found: Parsed<'_>) -> Result<Parsed<'_>, NoMemory>
+pub fn grouped(found: Parsed<'_>) -> Result<Parsed<'_>, NoMemory>
     ensures { IfOk result (λ tree. parsed tree ≡ grouped (parsed found.entry)) }
 {
     let Some((tree, behind)) = found else {
@@ -69,7 +64,7 @@ pub fn grouped(alloc: Global, found: Parsed<'_>) -> Result<Parsed<'_>, NoMemory>
     };
     match behind.split_first() {
         Some((Token::Sign(Sign::Close), rest)) => {
-            Ok(Some((RawExpr::Group(Box::new(alloc, tree)?), rest)))
+            Ok(Some((RawExpr::unary(RawNode::Group, tree)?, rest)))
         }
         _ => Ok(None),
     }
@@ -77,7 +72,6 @@ pub fn grouped(alloc: Global, found: Parsed<'_>) -> Result<Parsed<'_>, NoMemory>
 
 /// A comparison of a tree with what was found.
 pub fn compared<'a>(
-    alloc: Global,
     comparison: Comparison,
     a: RawExpr,
     found: Parsed<'a>,
@@ -87,25 +81,20 @@ pub fn compared<'a>(
     let Some((b, rest)) = found else {
         return Ok(None);
     };
-    let (a, b) = (Box::new(alloc, a)?, Box::new(alloc, b)?);
-    Ok(Some((RawExpr::Compare(comparison, a, b), rest)))
+    Ok(Some((RawExpr::binary(RawNode::Compare(comparison), a, b)?, rest)))
 }
 
 /// A test for NULL: NULL or NOT NULL comes, behind IS.
-pub fn null_test<'a>(
-    alloc: Global,
-    tree: RawExpr,
-    tokens: &'a [Token],
-) -> Result<Parsed<'a>, NoMemory>
+pub fn null_test<'a>(tree: RawExpr, tokens: &'a [Token]) -> Result<Parsed<'a>, NoMemory>
     ensures { IfOk result (λ found. parsed found ≡ null_test (tree_of tree) tokens.now) }
 {
     match tokens.split_first() {
         Some((Token::Word(Keyword::Null), rest)) => {
-            Ok(Some((RawExpr::IsNull(false, Box::new(alloc, tree)?), rest)))
+            Ok(Some((RawExpr::unary(RawNode::IsNull(false), tree)?, rest)))
         }
         Some((Token::Word(Keyword::Not), behind)) => match behind.split_first() {
             Some((Token::Word(Keyword::Null), rest)) => {
-                Ok(Some((RawExpr::IsNull(true, Box::new(alloc, tree)?), rest)))
+                Ok(Some((RawExpr::unary(RawNode::IsNull(true), tree)?, rest)))
             }
             _ => Ok(None),
         },
@@ -115,7 +104,6 @@ pub fn null_test<'a>(
 
 /// A tree IN the list that was found, behind which the closing bracket comes.
 pub fn listed<'a>(
-    alloc: Global,
     negated: bool,
     tree: RawExpr,
     found: ParsedArgs<'a>,
@@ -127,8 +115,7 @@ pub fn listed<'a>(
     };
     match behind.split_first() {
         Some((Token::Sign(Sign::Close), rest)) => {
-            let (tree, args) = (Box::new(alloc, tree)?, Box::new(alloc, args)?);
-            Ok(Some((RawExpr::In(negated, tree, args), rest)))
+            Ok(Some((RawExpr::listed(negated, tree, args)?, rest)))
         }
         _ => Ok(None),
     }
@@ -136,7 +123,6 @@ pub fn listed<'a>(
 
 /// A tree BETWEEN a lower bound and the upper one that was found.
 pub fn upto<'a>(
-    alloc: Global,
     negated: bool,
     tree: RawExpr,
     low: RawExpr,
@@ -147,34 +133,28 @@ pub fn upto<'a>(
     let Some((high, rest)) = found else {
         return Ok(None);
     };
-    let (tree, low) = (Box::new(alloc, tree)?, Box::new(alloc, low)?);
-    let high = Box::new(alloc, high)?;
-    Ok(Some((RawExpr::Between(negated, tree, low, high), rest)))
+    Ok(Some((
+        RawExpr::ternary(RawNode::Between(negated), tree, low, high)?,
+        rest,
+    )))
 }
 
 /// What was found, as the first argument.
-pub fn first_arg(alloc: Global, found: Parsed<'_>) -> Result<ParsedArgs<'_>, NoMemory>
-    ensures { IfOk result (λ args. parsed_args args ≡ first_arg (parsed found.entry)) }
+pub fn first_arg(found: Parsed<'_>) -> ParsedArgs<'_>
+    ensures { parsed_args result ≡ first_arg (parsed found.entry) }
 {
-    let Some((tree, rest)) = found else {
-        return Ok(None);
-    };
-    Ok(Some((RawArgs::One(Box::new(alloc, tree)?), rest)))
+    let (tree, rest) = found?;
+    Some((RawArgs::one(tree), rest))
 }
 
 /// What was found, behind other arguments.
-pub fn next_arg<'a>(
-    alloc: Global,
-    args: RawArgs,
-    found: Parsed<'a>,
-) -> Result<ParsedArgs<'a>, NoMemory>
+pub fn next_arg<'a>(args: RawArgs, found: Parsed<'a>) -> Result<ParsedArgs<'a>, NoMemory>
     ensures { IfOk result (λ more. parsed_args more ≡ next_arg (args_of args) (parsed found.entry)) }
 {
     let Some((tree, rest)) = found else {
         return Ok(None);
     };
-    let (args, tree) = (Box::new(alloc, args)?, Box::new(alloc, tree)?);
-    Ok(Some((RawArgs::More(args, tree), rest)))
+    Ok(Some((args.with(tree)?, rest)))
 }
 
 /// A condition with the value that was found.
@@ -186,19 +166,17 @@ pub fn valued<'a>(condition: RawExpr, found: Parsed<'a>) -> ParsedBranch<'a>
 }
 
 /// What was found, as the first branch.
-pub fn first_branch(alloc: Global, found: ParsedBranch<'_>) -> Result<ParsedBranches<'_>, NoMemory>
+pub fn first_branch(found: ParsedBranch<'_>) -> Result<ParsedBranches<'_>, NoMemory>
     ensures { IfOk result (λ branches. parsed_branches branches ≡ first_branch (parsed_branch found.entry)) }
 {
     let Some((condition, value, rest)) = found else {
         return Ok(None);
     };
-    let (condition, value) = (Box::new(alloc, condition)?, Box::new(alloc, value)?);
-    Ok(Some((RawBranches::When(condition, value), rest)))
+    Ok(Some((RawBranches::one(condition, value)?, rest)))
 }
 
 /// What was found, behind other branches.
 pub fn next_branch<'a>(
-    alloc: Global,
     branches: RawBranches,
     found: ParsedBranch<'a>,
 ) -> Result<ParsedBranches<'a>, NoMemory>
@@ -207,9 +185,7 @@ pub fn next_branch<'a>(
     let Some((condition, value, rest)) = found else {
         return Ok(None);
     };
-    let branches = Box::new(alloc, branches)?;
-    let (condition, value) = (Box::new(alloc, condition)?, Box::new(alloc, value)?);
-    Ok(Some((RawBranches::More(branches, condition, value), rest)))
+    Ok(Some((branches.with(condition, value)?, rest)))
 }
 
 /// A call with the arguments that were found, behind which the closing bracket comes.
@@ -226,19 +202,14 @@ pub fn called<'a>(
     };
     match behind.split_first() {
         Some((Token::Sign(Sign::Close), rest)) => {
-            let args = Box::new(alloc, args)?;
-            Ok(Some((RawExpr::Call(name.copy(alloc)?, place, args), rest)))
+            Ok(Some((args.called(name.copy(alloc)?, place)?, rest)))
         }
         _ => Ok(None),
     }
 }
 
 /// A CASE with the ELSE that was found, behind which END comes.
-pub fn ended_else<'a>(
-    alloc: Global,
-    branches: RawBranches,
-    found: Parsed<'a>,
-) -> Result<Parsed<'a>, NoMemory>
+pub fn ended_else<'a>(branches: RawBranches, found: Parsed<'a>) -> Result<Parsed<'a>, NoMemory>
     ensures { IfOk result (λ tree. parsed tree ≡ ended_else (branches_of branches) (parsed found.entry)) }
 {
     let Some((other, behind)) = found else {
@@ -246,22 +217,17 @@ pub fn ended_else<'a>(
     };
     match behind.split_first() {
         Some((Token::Word(Keyword::End), rest)) => {
-            let (branches, other) = (Box::new(alloc, branches)?, Box::new(alloc, other)?);
-            Ok(Some((RawExpr::CaseElse(branches, other), rest)))
+            Ok(Some((RawExpr::case_else(branches, other)?, rest)))
         }
         _ => Ok(None),
     }
 }
 
 /// A CASE without ELSE, whose END has come.
-pub fn ended<'a>(
-    alloc: Global,
-    branches: RawBranches,
-    rest: &'a [Token],
-) -> Result<Parsed<'a>, NoMemory>
+pub fn ended<'a>(branches: RawBranches, rest: &'a [Token]) -> Result<Parsed<'a>, NoMemory>
     ensures { IfOk result (λ tree. parsed tree ≡ Some (Case (branches_of branches), rest.now)) }
 {
-    Ok(Some((RawExpr::Case(Box::new(alloc, branches)?), rest)))
+    Ok(Some((branches.ended()?, rest)))
 }
 
 /// A tree that is LIKE the pattern which comes first.
@@ -275,29 +241,40 @@ pub fn liked<'a>(
 {
     match tokens.split_first() {
         Some((Token::Text(text), rest)) => {
-            let tree = Box::new(alloc, tree)?;
-            Ok(Some((RawExpr::Like(negated, tree, text.copy(alloc)?), rest)))
+            let like = RawNode::Like(negated, text.copy(alloc)?);
+            Ok(Some((RawExpr::unary(like, tree)?, rest)))
         }
         _ => Ok(None),
     }
+}
+
+/// A bare name alone, and the byte of the text that it begins at.
+pub fn bare_name<'a>(
+    alloc: Global,
+    name: &Bytes,
+    place: usize,
+    rest: &'a [Token],
+) -> Result<Parsed<'a>, NoMemory>
+    ensures { IfOk result (λ found. parsed found ≡ Some (Name name.now place, rest.now)) }
+{
+    let node = RawNode::Name(name.copy(alloc)?, place);
+    Ok(Some((RawExpr::leaf(alloc, node)?, rest)))
 }
 
 /// One token that is an expression alone.
 pub fn leaf<'a>(alloc: Global, token: &Token, rest: &'a [Token]) -> Result<Parsed<'a>, NoMemory>
     ensures { IfOk result (λ found. parsed found ≡ leaf token.now rest.now) }
 {
-    match token {
-        Token::Number(number) => Ok(Some((RawExpr::Number(number.copy(alloc)?), rest))),
-        Token::Text(text) => Ok(Some((RawExpr::Text(text.copy(alloc)?), rest))),
-        Token::Column(name) => Ok(Some((RawExpr::Column(name.copy(alloc)?), rest))),
-        Token::Field(name) => Ok(Some((RawExpr::Field(name.copy(alloc)?), rest))),
-        Token::FieldOf(view, name) => {
-            let view = view.copy(alloc)?;
-            Ok(Some((RawExpr::FieldOf(view, name.copy(alloc)?), rest)))
-        }
-        Token::Word(Keyword::True) => Ok(Some((RawExpr::Truth(true), rest))),
-        Token::Word(Keyword::False) => Ok(Some((RawExpr::Truth(false), rest))),
-        Token::Word(Keyword::Null) => Ok(Some((RawExpr::Null, rest))),
-        _ => Ok(None),
-    }
+    let node = match token {
+        Token::Number(number) => RawNode::Number(number.copy(alloc)?),
+        Token::Text(text) => RawNode::Text(text.copy(alloc)?),
+        Token::Column(name) => RawNode::Column(name.copy(alloc)?),
+        Token::Field(name) => RawNode::Field(name.copy(alloc)?),
+        Token::FieldOf(view, name) => RawNode::FieldOf(view.copy(alloc)?, name.copy(alloc)?),
+        Token::Word(Keyword::True) => RawNode::Truth(true),
+        Token::Word(Keyword::False) => RawNode::Truth(false),
+        Token::Word(Keyword::Null) => RawNode::Null,
+        _ => return Ok(None),
+    };
+    Ok(Some((RawExpr::leaf(alloc, node)?, rest)))
 }

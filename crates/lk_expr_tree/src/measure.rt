@@ -1,34 +1,36 @@
 ghost use Rattle.std.specs.Prelude.{◌≡◌};
-ghost use Rattle.lk_expr_tree.specs.RawCode.{tree_of, args_of};
-ghost use Rattle.lk_expr_tree.specs.Calls.{are_measures, is_arithmetic, is_measure};
+ghost use Rattle.std.specs.List.{list_all};
+ghost use Rattle.lk_expr_tree.specs.RawCode.{tree_of};
+ghost use Rattle.lk_expr_tree.specs.Calls.{is_arithmetic, is_measure};
+ghost use Rattle.lk_expr_tree.specs.NodeCalls.{is_measure_node};
 
-use crate::raw::{Joint, RawArgs, RawExpr};
+use crate::expr::RawExpr;
+use crate::raw::{Joint, RawNode};
 use lk_expr_token::{function_of, is_of_measures};
 
 /// Whether an expression is one over measures: numbers, references, `+ - * /`, unary minus, brackets, NULLIF and
 /// COALESCE alone. (Looker, LookML reference: type number; lookd)
-#[cycle(measure)]
 pub fn is_measure(e: &RawExpr) -> bool
     ensures { result ≡ is_measure (tree_of e.now) }
 {
-    match e {
-        RawExpr::Number(_) | RawExpr::Field(_) | RawExpr::FieldOf(_, _) => true,
-        RawExpr::Group(a) | RawExpr::Negate(a) => is_measure(a),
-        RawExpr::Call(name, _, args) => {
-            is_of_measures(function_of(name.as_slice())) && are_measures(args)
-        }
-        RawExpr::Chain(joint, a, b) => is_arithmetic(*joint) && (is_measure(a) && is_measure(b)),
-        _ => false,
-    }
+    are_measure_nodes(e.nodes())
 }
 
-#[cycle(measure)]
-fn are_measures(args: &RawArgs) -> bool
-    ensures { result ≡ are_measures (args_of args.now) }
+fn are_measure_nodes(nodes: &[RawNode]) -> bool
+    ensures { result ≡ list_all is_measure_node nodes.now }
 {
-    match args {
-        RawArgs::One(a) => is_measure(a),
-        RawArgs::More(args, a) => are_measures(args) && is_measure(a),
+    nodes.iter().all(is_measure_node)
+}
+
+fn is_measure_node(node: &RawNode) -> bool
+    ensures { result ≡ is_measure_node node.now }
+{
+    match node {
+        RawNode::Number(_) | RawNode::Field(_) | RawNode::FieldOf(_, _) => true,
+        RawNode::Group | RawNode::Negate => true,
+        RawNode::Call(name, _, _) => is_of_measures(function_of(name.as_slice())),
+        RawNode::Chain(joint) => is_arithmetic(*joint),
+        _ => false,
     }
 }
 

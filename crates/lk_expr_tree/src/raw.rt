@@ -1,3 +1,4 @@
+use lk_postfix::TakesOperands;
 use lk_types::Comparison;
 use lk_val::{Bytes, Text};
 
@@ -13,10 +14,10 @@ pub enum Joint {
     Over,
 }
 
-/// An expression as it is written, with its names unresolved.
-#[cycle(raw)]
+/// A node of an expression as it is written. Its operands stand before it in the list of nodes, each as the list of
+/// its own nodes.
 #[derive(Drop)]
-pub enum RawExpr {
+pub enum RawNode {
     /// A number as it is written.
     Number(Bytes),
     Text(Text),
@@ -31,37 +32,44 @@ pub enum RawExpr {
     /// A field of a view, `${view.name}`.
     FieldOf(Bytes, Bytes),
     /// An expression in brackets.
-    Group(Box<RawExpr>),
-    /// A function's name, the byte of the text that it begins at, and the arguments.
-    Call(Bytes, usize, Box<RawArgs>),
-    Case(Box<RawBranches>),
-    /// A CASE with its ELSE.
-    CaseElse(Box<RawBranches>, Box<RawExpr>),
-    Negate(Box<RawExpr>),
+    Group,
+    /// A function's name, the byte of the text that it begins at, and the number of arguments.
+    Call(Bytes, usize, usize),
+    /// So many operands: a condition and a value for each branch.
+    Case(usize),
+    /// So many operands: a condition and a value for each branch, and then the value of ELSE.
+    CaseElse(usize),
+    Negate,
     /// Two expressions that are joined; a longer chain is joined from the left.
-    Chain(Joint, Box<RawExpr>, Box<RawExpr>),
-    Compare(Comparison, Box<RawExpr>, Box<RawExpr>),
+    Chain(Joint),
+    Compare(Comparison),
     /// IS NULL; the truth value of this test and the next three is whether NOT stands in it.
-    IsNull(bool, Box<RawExpr>),
-    In(bool, Box<RawExpr>, Box<RawArgs>),
-    Between(bool, Box<RawExpr>, Box<RawExpr>, Box<RawExpr>),
-    /// A text and its pattern.
-    Like(bool, Box<RawExpr>, Text),
-    Not(Box<RawExpr>),
+    IsNull(bool),
+    /// So many operands: what is looked for, and then the list.
+    In(bool, usize),
+    /// Three operands: what is tested, the lower bound and the upper one.
+    Between(bool),
+    /// A text is the operand; its pattern stands here.
+    Like(bool, Text),
+    Not,
 }
 
-/// One or more expressions, in order.
-#[cycle(raw)]
-#[derive(Drop)]
-pub enum RawArgs {
-    One(Box<RawExpr>),
-    More(Box<RawArgs>, Box<RawExpr>),
-}
+impl TakesOperands for RawNode {
+    ghost use Rattle.lk_expr_tree.specs.RawNodes.{arity};
 
-/// One or more conditions with their values, in order.
-#[cycle(raw)]
-#[derive(Drop)]
-pub enum RawBranches {
-    When(Box<RawExpr>, Box<RawExpr>),
-    More(Box<RawBranches>, Box<RawExpr>, Box<RawExpr>),
+    ghost takes = { arity };
+
+    fn arity(&self) -> usize {
+        match self {
+            RawNode::Number(_) | RawNode::Text(_) | RawNode::Truth(_) | RawNode::Null => 0,
+            RawNode::Name(_, _) | RawNode::Column(_) => 0,
+            RawNode::Field(_) | RawNode::FieldOf(_, _) => 0,
+            RawNode::Group | RawNode::Negate | RawNode::Not => 1,
+            RawNode::IsNull(_) | RawNode::Like(_, _) => 1,
+            RawNode::Chain(_) | RawNode::Compare(_) => 2,
+            RawNode::Between(_) => 3,
+            RawNode::Call(_, _, count) | RawNode::In(_, count) => *count,
+            RawNode::Case(count) | RawNode::CaseElse(count) => *count,
+        }
+    }
 }

@@ -1,3 +1,4 @@
+pub mod NodeLaws
 pub mod MentionLaws
 pub mod FittingLaws
 pub mod UnfoldedLaws

@@ -1,10 +1,9 @@
 -- IN, BETWEEN and NULLIF are the comparisons that they stand for.
 use Rattle.std.proofs.Common.{◌≡◌, Bool, true, false, List, [], ◌∷◌, Option, Some, None, refl, sym, ap, ◌∙◌}
 use Rattle.std.specs.Prelude.{if◌then◌else◌}
-use Rattle.lk_val.specs.declared.value.Value.{Value}
 use Rattle.lk_val.specs.declared.value.Value.TheVariants as value
 use Rattle.lk_types.specs.Formula.{Formula, Formulas, no_more, more, In, Between, NullIf, Or}
-use Rattle.lk_types.specs.Expressions.{value_of, values_of, truth_of, value_of_truth, or_of, and_of, not_of, compared, is_one_of, is_true, is_true_truth, null_if}
+use Rattle.lk_types.specs.Expressions.{value_of, values_of, truth_of, value_of_truth, or_of, and_of, not_of, compared, is_one_of, is_true, is_true_truth}
 use Rattle.lk_types.specs.Unfolded.{Sides, equation, or_equal, any_equal, beside_each, from_to, null_where_equal}
 use Rattle.lk_types.specs.declared.rows.Joined.{Joined}
 use Rattle.lk_types.specs.declared.expr.Comparison.TheVariants as comparison

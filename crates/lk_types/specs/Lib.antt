@@ -4,8 +4,10 @@ pub mod Shapes
 pub mod Printing
 pub mod Formula
 pub mod FormulaCode
+pub mod FormulaNodes
 pub mod Calculation
 pub mod CalculationCode
+pub mod CalculationNodes
 pub mod Expressions
 pub mod Unfolded
 pub mod Fitting

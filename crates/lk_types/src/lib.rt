@@ -28,7 +28,7 @@ pub use examples::{
 pub use explore::{
     Explore, Field, Join, JoinKind, Measure, Op, Origin, Part, Relation, Rollup, Shape,
 };
-pub use expr::{Args, Arithmetic, Branches, Comparison, Expr, Node, Piece};
+pub use expr::{Arithmetic, Comparison, Expr, Node, Piece};
 pub use filter::{Days, Edge, End, Filter, Period, Test};
 pub use kind_set::{KindSet, Leaves};
 pub use laws::{
@@ -36,7 +36,7 @@ pub use laws::{
     shaped_values_have_their_kinds,
 };
 pub use model::{Datagroup, Derived, Model, Pick, Trigger};
-pub use number::{NumArgs, NumExpr, NumNode};
+pub use number::{NumExpr, NumNode};
 pub use pattern::matches;
 pub use printing::{print_cell, print_json};
 pub use rows::{Joined, Sources, Tables};

@@ -1,0 +1,4 @@
+pub mod RawLaws
+pub mod GatheredLaws
+pub mod MeasureLaws
+pub mod CallLaws
