@@ -1,12 +1,12 @@
 -- The place of a text that is no text of a grammar over the terminals of its tokens.
-use Rattle.std.proofs.Common.{◌≡◌, ◌⊎◌, inl, inr, ℕ, zero, suc, ◌+◌, ◌-◌, ◌<◌, ◌≤◌, max, true, false, List, [], ◌∷◌, ◌++◌, length, take, drop, map, Option, Some, None, refl, sym, ap, subst, ◌∙◌, append_assoc, length-append, append-nil, arith}
+use Rattle.std.proofs.Common.{◌≡◌, ◌⊎◌, inl, inr, ℕ, zero, suc, ◌+◌, ◌-◌, ◌<◌, ◌≤◌, true, false, List, [], ◌∷◌, ◌++◌, length, take, drop, map, Option, Some, None, refl, sym, ap, subst, ◌∙◌, append_assoc, length-append, append-nil, arith}
 use Rattle.std.specs.Prelude.{slice_get}
 use Rattle.std.specs.List.{AllByRecursion}
-use Rattle.std.specs.Option.{unwrap_or}
+use Rattle.std.specs.Option.{unwrap_or, ForSome}
 use Rattle.std.proofs.lemmas.Bool.{false≢true, cases_lt}
-use Rattle.std.proofs.lemmas.Option.{some_pair_parts, same_Some}
+use Rattle.std.proofs.lemmas.Option.{some_pair_parts, same_Some, slice_get_within, get_or_from_slice_get}
 use Rattle.std.proofs.lemmas.List.{take-append-drop, take-map, map-append, length-map}
-use Rattle.std.proofs.Math.Seq.{take-append_seam, take-append-add, length-take-le}
+use Rattle.std.proofs.Math.Seq.{take-append_seam, take-append-add, take-suc, length-take-le}
 use Rattle.lk_grammar.specs.Places.{IsViable, IsPlace, Judges}
 use Rattle.lk_grammar.proofs.ReadingLaws.{place_of_judged}
 use Rattle.lk_expr_token.specs.declared.token.Token.{Token}
@@ -18,7 +18,7 @@ use Rattle.lk_expr_token.specs.TokenFronts.{is_unread, IsOfTerminal, IsUnreadAt,
 use Rattle.lk_expr_token.proofs.LexSteps.{no_some}
 use Rattle.lk_expr_token.proofs.LexLaws.{token_found}
 use Rattle.lk_expr_token.proofs.TerminalLaws.{EndsSo, same_head, token_before, terminal_at_end, of_terminal, IsSolid, token_solid, solid_stays}
-use Rattle.lk_expr_place.specs.SyntaxPlaces.{IsSyntaxPlace, IsTerminalText, MayFollow, IsLongest, IsStart}
+use Rattle.lk_expr_place.specs.SyntaxPlaces.{IsSyntaxPlace, IsTerminalText, MayFollow, IsNoNext, IsLongest, IsStart}
 use Rattle.lk_expr_token.proofs.TerminalsKnown.{terminal_there}
 use Rattle.lk_expr_token.proofs.FrontTokens.{skip_gap, skips_all, solid_more, behind_spelled}
 use Rattle.lk_expr_place.proofs.ReadFronts.{solid_not_spaces, gap_same, IsFront, moved, step_text, step_first, glued, front_then, followed, IsRun, run, IsCut, cut, one_token, same_unread, sampled, ends_sampled, terminal_before, spelled_samples}
@@ -327,31 +327,39 @@ module _ (Terminals : List ℕ → Type 0) (tokens_of : (bytes : List ℕ) → T
       all : (k : ℕ) → IsUnreadAt text k → (is_unread r.rest ≡ true) × (k + length r.rest ≡ length text)
       all k u = same_unread (length text) (λ z. (is_unread z ≡ true) × (k + length z ≡ length text)) r.tokens u.0 r.front r.rest (λ z b. b.0) r.stopped r.stays r.read (subst (IsSpelledThen (length text) (λ z. (is_unread z ≡ true) × (k + length z ≡ length text)) u.0) r.joined u.1)
 
+-- the terminal at the place of a list may not stand there
+pub refused_there : (Terminals : List ℕ → Type 0) (bytes : List ℕ) (place : ℕ) → IsPlace Terminals bytes place → ForSome (slice_get bytes place) (IsNoNext Terminals (take place bytes))
+refused_there Terminals bytes place at b e viable =
+    let inside : place < length bytes = slice_get_within bytes place b e in
+    let front : take (suc place) bytes ≡ take place bytes ++ b ∷ [] = take-suc bytes place 0 inside ∙ ap (λ z. take place bytes ++ z ∷ []) (get_or_from_slice_get bytes place b 0 e) in
+    let more = at.longest (suc place) (omega (arith, inside)) (subst (IsViable Terminals) (sym front) viable) in
+    omega (arith, more)
+
 -- ---- the longest start of a token of some terminals
 
 module _ (Terminals : List ℕ → Type 0) (terminals rest : List ℕ) where
   pub nothing_starts : IsStart Terminals terminals rest [] 0
   nothing_starts = record { within = omega arith; begins = inl refl; longest = tt }
 
-  pub one_starts : (k : Terminal) (n : ℕ) → MayFollow Terminals terminals k → IsPlace (IsOfTerminal k) rest n → IsStart Terminals terminals rest (k ∷ []) n
-  one_starts k n may at = record { within = at.within; begins = inr (k, may, at.begins); longest = (λ _. at.longest, tt) }
-
-  pub none_starts : (k : Terminal) → (MayFollow Terminals terminals k → ⊥) → IsStart Terminals terminals rest (k ∷ []) 0
-  none_starts k not_may = record { within = omega arith; begins = inl refl; longest = ((λ may. absurd (not_may may)), tt) }
-
   no_less : (m n : ℕ) → n ≤ m → (ks : List Terminal) → AllByRecursion (λ k. MayFollow Terminals terminals k → IsLongest rest n k) ks → AllByRecursion (λ k. MayFollow Terminals terminals k → IsLongest rest m k) ks
   no_less m n h [] all = tt
   no_less m n h (k ∷ ks) all = ((λ may j within v. let l = all.0 may j within v in omega (arith, l, h)), no_less m n h ks all.1)
 
-  pub more_start : (k : Terminal) (ks : List Terminal) (m n : ℕ) → IsStart Terminals terminals rest (k ∷ []) m → IsStart Terminals terminals rest ks n → IsStart Terminals terminals rest (k ∷ ks) (max n m)
-  more_start k ks m n one others =
-      let a = one.within in
-      let b = others.within in
-      record {
-        within = omega (arith, a, b);
-        begins = elim (cases_lt m n) [
-          | inl less ↦ let is : n ≡ max n m = omega (arith, less) in subst (λ z. (z ≡ 0) ⊎ ((k : Terminal) × MayFollow Terminals terminals k × IsViable (IsOfTerminal k) (take z rest))) is others.begins
-          | inr no_more ↦ let is : m ≡ max n m = omega (arith, no_more) in subst (λ z. (z ≡ 0) ⊎ ((k : Terminal) × MayFollow Terminals terminals k × IsViable (IsOfTerminal k) (take z rest))) is one.begins
-        ];
-        longest = ((no_less (max n m) m (omega arith) (k ∷ []) one.longest).0, no_less (max n m) n (omega arith) ks others.longest);
-      }
+  -- a terminal whose front is no longer, or which may not follow, moves nothing
+  pub no_longer_starts : (k : Terminal) (ks : List Terminal) (best own : ℕ) → IsStart Terminals terminals rest ks best → IsPlace (IsOfTerminal k) rest own → own ≤ best → IsStart Terminals terminals rest (k ∷ ks) best
+  no_longer_starts k ks best own h at short = record {
+    within = h.within;
+    begins = h.begins;
+    longest = ((λ may m within v. let l = at.longest m within v in omega (arith, l, short)), h.longest);
+  }
+
+  pub none_starts : (k : Terminal) (ks : List Terminal) (best : ℕ) → IsStart Terminals terminals rest ks best → (MayFollow Terminals terminals k → ⊥) → IsStart Terminals terminals rest (k ∷ ks) best
+  none_starts k ks best h not_may = record { within = h.within; begins = h.begins; longest = ((λ may. absurd (not_may may)), h.longest) }
+
+  -- one with a longer front that may follow is the longest so far
+  pub longer_starts : (k : Terminal) (ks : List Terminal) (best own : ℕ) → IsStart Terminals terminals rest ks best → IsPlace (IsOfTerminal k) rest own → MayFollow Terminals terminals k → best ≤ own → IsStart Terminals terminals rest (k ∷ ks) own
+  longer_starts k ks best own h at may long = record {
+    within = at.within;
+    begins = inr (k, may, at.begins);
+    longest = ((λ _. at.longest), no_less own best long ks h.longest);
+  }
