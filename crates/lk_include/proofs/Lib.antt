@@ -1,0 +1,5 @@
+pub mod FittingLaws
+pub mod ListingLaws
+pub mod NameSteps
+pub mod ReadingLaws
+pub mod ReadSteps

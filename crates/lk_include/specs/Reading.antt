@@ -1,0 +1,9 @@
+-- What the bytes of a file read as.
+use Rattle.std.specs.Prelude.{ℕ, List}
+use Rattle.lk_read.specs.Outcome.{Outcome}
+use Rattle.lk_read.proofs.OneOutcome.{some_outcome}
+
+-- the outcome of the bytes: the tree that they spell with at most 32 blocks and lists open at once, or their fault.
+-- That there is one, and only one, is a law (`texts_have_readings`)
+unfoldable pub reading_of : List ℕ → Outcome
+reading_of text = (some_outcome 32 text).0
