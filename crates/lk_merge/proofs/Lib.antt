@@ -1,0 +1,5 @@
+pub mod Examples
+pub mod HandedLaws
+pub mod NameLaws
+pub mod RankLaws
+pub mod Steps

@@ -1,0 +1,21 @@
+//! LookML files as one project: the effective views, explores and datagroups, or the first fault of merging.
+#![tactic(auto)]
+
+mod contributors;
+mod cycles;
+mod declaration;
+mod faults;
+mod merging;
+mod names;
+mod objects;
+mod project;
+mod ranks;
+mod slot;
+mod strays;
+mod whole;
+
+pub use declaration::{Declaration, Kind};
+pub use lk_include::{Project, ProjectFault};
+pub use project::{Merged, Object};
+pub use slot::Slot;
+pub use whole::merge;
