@@ -97,7 +97,7 @@ with_measure o k v = orders_with Left (record { name = codes "orders.m"; part = 
 abbrev pub open_time : Formula
 open_time = NullIf (Literal value.Null) (Column 0 3)
 
--- with two measures, the first status and that plus one; and with one that stands on itself
+-- a `number` that is a measure; beside the first status as a text, and standing on itself
 abbrev pub on_measure : ℕ → Measure
 on_measure n = record { name = codes "orders.n"; part = 0; op = op.Number; kind = kind.Number; value = None; key = None; filters = []; number = Some (calculation.OfMeasure n) }
 

@@ -72,7 +72,7 @@ by_name x (f ∷ fs) = put_by_name x f (by_name x fs)
 abbrev pub with_always : Explore → List (ℕ × Filter) → List (ℕ × Filter)
 with_always x filters = by_name x (filters ++ filter (λ f. not (has_number f.0 (filtered filters))) x.always)
 
--- the query of a derived table: no access filters and no sorts; its rows are those before any cut (`answer_rows`), so its limit is not read
+-- the query of a derived table: no access filters and no sorts; its rows are those before any cut (`answer_rows`), so its limit, the least that a query has, is not read
 abbrev pub derived_query : Explore → Derived → Bound
 derived_query x d =
     let picks = map (λ c. c.1) d.columns in
@@ -85,7 +85,7 @@ derived_query x d =
       rows = rows;
       having = [];
       sorts = [];
-      limit = 0;
+      limit = 1;
       fresh = false;
       csv = false;
     }

@@ -7,6 +7,7 @@ use Rattle.lk_types.specs.Expressions.{has_number}
 use Rattle.lk_types.specs.Dates.{are_literals_dated}
 use Rattle.lk_types.specs.Shapes.{framed_kind}
 use Rattle.lk_types.specs.Filters.{is_filter_of, is_placed}
+use Rattle.lk_types.specs.WholeForms.{is_whole_form, is_whole_calculation}
 use Rattle.lk_types.specs.Kinds.{kinds_of, has_kind, is_same_kind, is_empty, single}
 use Rattle.lk_semantics.specs.Joins.{is_cross, numbers_below}
 use Rattle.lk_semantics.specs.Answers.{measure_at, measures_in, components_of, filtered, query_components}
@@ -112,9 +113,14 @@ is_numbered_trigger m (trigger.Max t column) = nat_lt t (length m.schema.tables)
 is_numbered_trigger m (trigger.Count t) = nat_lt t (length m.schema.tables)
 is_numbered_trigger m trigger.Today = true
 
--- the trigger of a datagroup, if it has one, is in range
+-- a datagroup's interval, if it has one, is of 1 second to 1,000,000 hours (Looker, LookML reference: max_cache_age; lookd)
+abbrev pub is_interval : Option ℤ → Bool
+is_interval None = true
+is_interval (Some seconds) = int_le (pos 1) seconds && int_le seconds (pos 3600000000)
+
+-- the trigger and the interval of a datagroup, if it has them, are in range
 abbrev pub is_numbered_datagroup : Model → Datagroup → Bool
-is_numbered_datagroup m g = of_trigger g.trigger
+is_numbered_datagroup m g = of_trigger g.trigger && is_interval g.interval
   where
     of_trigger : Option Trigger → Bool
     of_trigger None = true
@@ -275,6 +281,25 @@ is_typed_explore m x =
     && list_all (names_numbers x) x.measures
     && is_none_or_typed (leaves_of m x) kind.Truth x.always_where
 
+-- each part of an expression, if there is one, is there
+abbrev pub is_none_or_whole : Option Formula → Bool
+is_none_or_whole None = true
+is_none_or_whole (Some e) = is_whole_form e
+
+-- and of a calculation
+abbrev pub is_none_or_whole_calculation : Option Calculation → Bool
+is_none_or_whole_calculation None = true
+is_none_or_whole_calculation (Some e) = is_whole_calculation e
+
+-- all expressions of an explore have all parts that the grammar wants
+abbrev pub has_whole_forms : Explore → Bool
+has_whole_forms x =
+    list_all (λ part. is_none_or_whole part.key) x.parts
+    && list_all (λ join. is_none_or_whole join.on) x.joins
+    && list_all (λ f. is_whole_form f.expr) x.fields
+    && list_all (λ m. is_none_or_whole m.value && is_none_or_whole m.key && is_none_or_whole_calculation m.number) x.measures
+    && is_none_or_whole x.always_where
+
 -- two fields that are timeframes of one group are of one view and one expression
 abbrev pub AreOfOneGroup : Field → Field → Type 0
 AreOfOneGroup f g = of_shapes f.shape g.shape
@@ -373,6 +398,7 @@ are_one (g ∷ gs) = list_all (nat_eq g) gs
 -- an explore of a resolved model
 pub record IsResolvedExplore (m : Model) (x : Explore) : Type 0 where
   pub parts : has_part_for_each_join x ≡ true
+  pub whole : has_whole_forms x ≡ true
   pub typed : is_typed_explore m x ≡ true
   pub filters : has_typed_filters x ≡ true
   pub groups : HasGroupsOfOnePart x

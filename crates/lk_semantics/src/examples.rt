@@ -7,10 +7,10 @@ ghost use Rattle.lk_semantics.specs.Joins.{joined_rows, is_fanned, numbers_below
 ghost use Rattle.lk_semantics.specs.Rows.{passing_rows};
 ghost use Rattle.lk_semantics.specs.Measures.{pairs_of, total, groups_of};
 ghost use Rattle.lk_semantics.specs.Answers.{answer_of, given_rows, measure_at};
-ghost use Rattle.lk_semantics.specs.Derived.{explore_at, joins_for, with_always};
+ghost use Rattle.lk_semantics.specs.Derived.{explore_at, derived_query, joins_for, with_always};
 ghost use Rattle.lk_semantics.specs.Reading.{reached_tables, explore_datagroups, reads_itself, leaves_of};
-ghost use Rattle.lk_semantics.specs.Resolved.{IsResolved, is_typed_explore, is_numbered_rollup, has_grounded_measures, has_typed_filters, is_fixed_rollup, has_exact_keys, has_part_for_each_join, are_one};
-ghost use Rattle.lk_semantics.specs.Corners.{count_with_value, cross_with_condition, with_default, buyers_and_sellers, by_buyers_day, chained, circular, with_field, with_measure, open_time, number_over_text, number_over_itself, with_default_of, without_key, without_items, by_today, beside_rollup};
+ghost use Rattle.lk_semantics.specs.Resolved.{IsResolved, IsInModel, has_whole_forms, is_interval, is_typed_explore, is_numbered_rollup, has_grounded_measures, has_typed_filters, is_fixed_rollup, has_exact_keys, has_part_for_each_join, are_one};
+ghost use Rattle.lk_semantics.specs.Corners.{count_with_value, cross_with_condition, with_default, buyers_and_sellers, by_buyers_day, chained, circular, derived_from, with_field, with_measure, open_time, number_over_text, number_over_itself, with_default_of, without_key, without_items, by_today, beside_rollup};
 ghost use Rattle.lk_semantics.specs.Rollups.{determined_views, present_views, has_field, reached_datagroups, fits, route_of, partials_of, may_be_stored, may_be_rolled_up, merged, cell_of_partial};
 ghost use Rattle.lk_types.specs.Tables.{is_valid_table};
 ghost use Rattle.lk_types.specs.Kinds.{kind_at};
@@ -26,7 +26,7 @@ ghost use Rattle.lk_types.specs.declared.filter.Test.TheVariants as test;
 ghost use Rattle.lk_types.specs.declared.filter.Period.TheVariants as period;
 ghost use Rattle.lk_types.specs.declared.explore.JoinKind.TheVariants.{Left, Full, Inner, Cross};
 ghost use Rattle.lk_types.specs.declared.schema.Kind.TheVariants as kind;
-ghost use Rattle.lk_types.specs.Formula.{Column, Literal};
+ghost use Rattle.lk_types.specs.Formula.{Column, Literal, In, Case, Coalesce, no_more, more, otherwise};
 ghost use Rattle.lk_types.specs.declared.schema.Frame.TheVariants as frame;
 ghost use Rattle.lk_types.specs.declared.explore.Shape.TheVariants as shape;
 ghost use Rattle.lk_types.specs.declared.filter.Test.TheVariants as test;
@@ -192,6 +192,12 @@ pub fn the_shop_is_resolved()
     ensures open_group_day { is_typed_explore shop_model (with_field kind.Day (Literal value.Null) (shape.Frame 0 frame.Raw)) ≡ false }
     ensures plain_moment { is_typed_explore shop_model (with_field kind.Moment (Column 0 3) shape.Plain) ≡ false }
     ensures tiers_that_fall { is_typed_explore shop_model (with_field kind.Number (Column 0 0) (shape.Tier (pos 20 ∷ pos 10 ∷ []))) ≡ false }
+    ensures list_of_none { has_whole_forms (with_field kind.Truth (In (Column 0 2) no_more) shape.Plain) ≡ false }
+    ensures list_of_one { has_whole_forms (with_field kind.Truth (In (Column 0 2) (more (Literal value.Null) no_more)) shape.Plain) ≡ true }
+    ensures no_branch { has_whole_forms (with_field kind.Text (Case (otherwise (Column 0 2))) shape.Plain) ≡ false }
+    ensures no_argument { has_whole_forms (with_field kind.Text (Coalesce no_more) shape.Plain) ≡ false }
+    ensures no_interval { is_interval (Some (pos 0)) ≡ false }
+    ensures derived_query { IsInModel chained (derived_query (explore_at chained 0) (derived_from (codes "a") 0 None)) }
     ensures late_literal { is_typed_explore shop_model (with_measure op.Max kind.Day (Some (Literal (value.Day (pos 2932897))))) ≡ false }
     ensures number_over_text { is_typed_explore shop_model number_over_text ≡ false }
     ensures number_over_itself { has_grounded_measures number_over_itself ≡ false }

@@ -2,7 +2,7 @@
 use Rattle.std.proofs.Common.{◌≡◌, Bool, true, false, List, [], ◌∷◌, Option, Some, None, refl, sym, ap, ◌∙◌}
 use Rattle.std.specs.Prelude.{if◌then◌else◌}
 use Rattle.lk_val.specs.declared.value.Value.TheVariants as value
-use Rattle.lk_types.specs.Formula.{Formula, Formulas, no_more, more, In, Between, NullIf, Or}
+use Rattle.lk_types.specs.Formula.{Formula, Formulas, no_more, more, Literal, In, Between, NullIf, Or}
 use Rattle.lk_types.specs.Expressions.{value_of, values_of, truth_of, value_of_truth, or_of, and_of, not_of, compared, is_one_of, is_true, is_true_truth}
 use Rattle.lk_types.specs.Unfolded.{Sides, equation, or_equal, any_equal, beside_each, from_to, null_where_equal}
 use Rattle.lk_types.specs.declared.rows.Joined.{Joined}
@@ -58,12 +58,16 @@ of_truth [] e row is = is
 of_truth (s ∷ sides) e row is =
     of_truth sides (Or e (equation s)) row (λ i. value_of_truth (sym (truth_again (or_of (truth_of (value_of e row)) (truth_of (value_of (equation s) row)))) i))
 
+false_or : (a : Option Bool) → or_of (Some false) a ≡ a
+false_or None = refl
+false_or (Some true) = refl
+false_or (Some false) = refl
+
 pub in_list : (x : Formula) (all : Formulas) (row : Joined) → value_of (In x all) row ≡ value_of (any_equal (beside_each x all)) row
-in_list x no_more row = refl
-in_list x (more a all) row =
-    let this = compared comparison.Equal (value_of x row) (value_of a row) in
-    sym (of_truth (beside_each x all) (equation (x, a)) row (λ i. value_of_truth (sym (truth_again this) i))
-    ∙ ap value_of_truth (or_some (equation (x, a)) x all row ∙ (λ i. or_of (truth_again this i) (is_one_of (value_of x row) (values_of all row)))))
+in_list x all row =
+    let no = Literal (value.Truth false) in
+    sym (of_truth (beside_each x all) no row refl
+    ∙ ap value_of_truth (or_some no x all row ∙ false_or (is_one_of (value_of x row) (values_of all row))))
 
 pub between : (x low high : Formula) (row : Joined) → value_of (Between x low high) row ≡ value_of (from_to (x, low) (x, high)) row
 between x low high row =

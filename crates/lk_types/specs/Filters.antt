@@ -1,5 +1,5 @@
 -- Which values pass a filter, and what its relative dates stand for at a moment.
-use Rattle.std.specs.Prelude.{ℕ, nat_le, ◌+◌, ◌-◌, ◌*◌, ◌/◌, ◌%◌, ◌==◌, min, Bool, true, false, not, ◌&&◌, ◌||◌, ℤ, pos, int_le, int_lt, List, [], map, Option, Some, None, if◌then◌else◌}
+use Rattle.std.specs.Prelude.{ℕ, nat_le, ◌+◌, ◌-◌, ◌*◌, ◌/◌, ◌%◌, ◌==◌, min, Bool, true, false, not, ◌&&◌, ◌||◌, ℤ, pos, int_le, int_lt, List, [], ◌∷◌, map, Option, Some, None, if◌then◌else◌}
 use Rattle.std.specs.List.{list_any, list_all}
 use Rattle.std.specs.Cmp.Lexicographic.{pointwise}
 use Rattle.std.specs.Ordering.{int_eq}
@@ -184,6 +184,11 @@ are_days span = is_day_in_years span.from && int_le span.from span.up_to && int_
 abbrev pub is_count : ℕ → Bool
 is_count n = nat_le 1 n && nat_le n 10000
 
+-- a unit that stands behind `this` and `last`: not a day, which has words of its own
+abbrev pub is_longer : Period → Bool
+is_longer Day = false
+is_longer p = true
+
 -- a test is one that a filter on days or moments may have
 abbrev pub is_date_test : Test → Bool
 is_date_test test.Null = true
@@ -191,43 +196,79 @@ is_date_test (test.In span) = are_days span
 is_date_test (test.Before span) = are_days span
 is_date_test (test.After span) = are_days span
 is_date_test (test.FromTo first last) = are_days first && are_days last
+is_date_test (test.This p) = is_longer p
+is_date_test (test.Last p) = is_longer p
 is_date_test (test.Recent n p) = is_count n
 is_date_test (test.Ago n p) = is_count n
 is_date_test t = is_relative t
+
+-- a comparison that is written before a number: below or above it, or at it too
+abbrev pub is_bound : Comparison → Bool
+is_bound comparison.Equal = false
+is_bound comparison.NotEqual = false
+is_bound c = true
+
+-- some comparisons, each a bound
+abbrev pub are_bounds : List (Comparison × Num) → Bool
+are_bounds [] = false
+are_bounds (bound ∷ bounds) = list_all (λ b. is_bound b.0) (bound ∷ bounds)
+
+-- one of two bounds is there
+abbrev pub has_bound : Option Num → Option Num → Bool
+has_bound None None = false
+has_bound low high = true
 
 -- a test is one that a filter on numbers may have
 abbrev pub is_number_test : Test → Bool
 is_number_test test.Null = true
 is_number_test (test.Is n) = true
-is_number_test (test.Compare comparisons) = true
-is_number_test (test.To low high) = true
+is_number_test (test.Compare comparisons) = are_bounds comparisons
+is_number_test (test.To low high) = has_bound low high
 is_number_test (test.Range low high) = true
 is_number_test t = false
+
+-- a pattern with some character
+abbrev pub is_pattern : List Piece → Bool
+is_pattern [] = false
+is_pattern (p ∷ pieces) = true
 
 -- a test is one that a filter on texts may have
 abbrev pub is_text_test : Test → Bool
 is_text_test test.Null = true
 is_text_test test.Empty = true
-is_text_test (test.Like pieces) = true
+is_text_test (test.Like pieces) = is_pattern pieces
 is_text_test t = false
 
--- a test is one that a filter on truth values may have
+-- yes or no
 abbrev pub is_truth_test : Test → Bool
-is_truth_test test.Null = true
 is_truth_test (test.Truth b) = true
 is_truth_test t = false
 
--- a test is one that a filter on values of the kind may have (Looker, filter expressions)
-abbrev pub is_test_of : Kind → Test → Bool
-is_test_of kind.Text t = is_text_test t
-is_test_of kind.Number t = is_number_test t
-is_test_of kind.Truth t = is_truth_test t
-is_test_of kind.Day t = is_date_test t
-is_test_of kind.Moment t = is_date_test t
+-- null
+abbrev pub is_null_test : Test → Bool
+is_null_test test.Null = true
+is_null_test t = false
+
+-- a test is one that a filter on values of the kind may have among its includes (Looker, filter expressions)
+abbrev pub is_include_of : Kind → Test → Bool
+is_include_of kind.Text t = is_text_test t
+is_include_of kind.Number t = is_number_test t
+is_include_of kind.Truth t = is_truth_test t
+is_include_of kind.Day t = is_date_test t
+is_include_of kind.Moment t = is_date_test t
+
+-- and among its excludes: of dates null alone, and none of yes and no
+abbrev pub is_exclude_of : Kind → Test → Bool
+is_exclude_of kind.Text t = is_text_test t
+is_exclude_of kind.Number t = is_number_test t
+is_exclude_of kind.Truth t = false
+is_exclude_of kind.Day t = is_null_test t
+is_exclude_of kind.Moment t = is_null_test t
 
 -- a filter of the kind: each test is of it, and its mark says whether some test is a relative date
 abbrev pub is_filter_of : Kind → Filter → Bool
-is_filter_of k f = list_all (is_test_of k) f.include && list_all (is_test_of k) f.exclude && (if has_relative f then f.relative else not f.relative)
+is_filter_of k f =
+    list_all (is_include_of k) f.include && list_all (is_exclude_of k) f.exclude && (if has_relative f then f.relative else not f.relative)
 
 -- ---- sameness
 

@@ -10,6 +10,7 @@ pub mod CalculationCode
 pub mod CalculationNodes
 pub mod Expressions
 pub mod Unfolded
+pub mod WholeForms
 pub mod Fitting
 pub mod Filters
 pub mod Tables

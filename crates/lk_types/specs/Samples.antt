@@ -1,7 +1,9 @@
--- Values and filters in short words, for computed examples.
-use Rattle.std.specs.Prelude.{ℕ, Bool, pos, ◌*ℤ◌, false, List}
+-- Values, filters and comparisons in short words, for computed examples.
+use Rattle.std.specs.Prelude.{ℕ, nat_eq, Bool, pos, ◌*ℤ◌, true, false, ◌&&◌, List}
 use Rattle.lk_val.specs.declared.value.Value.{Value}
 use Rattle.lk_val.specs.declared.value.Value.TheVariants as value
+use Rattle.lk_types.specs.Formula.{Formula, Column, Literal}
+use Rattle.lk_types.specs.Unfolded.{Sides}
 use Rattle.lk_types.specs.declared.filter.Filter.{Filter}
 use Rattle.lk_types.specs.declared.filter.Edge.{Edge}
 use Rattle.lk_types.specs.declared.filter.Edge.TheVariants as edge
@@ -35,3 +37,16 @@ interval low low_closed high high_closed = test.Range (record { edge = low; clos
 
 abbrev pub days : ℕ → ℕ → Test
 days from up_to = test.In (record { from = pos from; up_to = pos up_to })
+
+-- ---- comparisons: with column 0 of part 0, a day, a literal is 2024-01-01, and with another it stays
+
+abbrev pub is_first_column : Formula → Bool
+is_first_column (Column part column) = nat_eq part 0 && nat_eq column 0
+is_first_column e = false
+
+abbrev pub beside_day : Bool → Formula → Formula
+beside_day true (Literal v) = Literal (value.Day (pos 19723))
+beside_day b e = e
+
+abbrev pub beside_first_column : Formula → Formula → Sides
+beside_first_column a b = (beside_day (is_first_column b) a, beside_day (is_first_column a) b)

@@ -1,15 +1,15 @@
 ghost use Rattle.std.specs.Prelude.{◌≡◌, ◌∷◌, [], true, false, pos, neg_ℤ, map, replicate, codes, Some, None};
 ghost use Rattle.lk_val.specs.declared.cell.Cell.TheVariants as cell;
 ghost use Rattle.lk_val.specs.declared.value.Value.TheVariants as value;
-ghost use Rattle.lk_types.specs.Formula.{Column, Compare, Or, Literal, And, In, Like, Number, Negate, no_more, more};
+ghost use Rattle.lk_types.specs.Formula.{Column, Compare, Or, Literal, And, In, Between, Like, Number, Negate, NullIf, Case, no_more, more, when, otherwise};
 ghost use Rattle.lk_types.specs.Expressions.{value_of, matches};
 ghost use Rattle.lk_types.specs.Timeframes.{timeframe_of};
 ghost use Rattle.lk_types.specs.Filters.{passes, placed, is_filter_of};
 ghost use Rattle.lk_types.specs.Tables.{is_cell};
 ghost use Rattle.lk_types.specs.Printing.{cell_json};
-ghost use Rattle.lk_types.specs.Unfolded.{any_equal};
+ghost use Rattle.lk_types.specs.Unfolded.{any_equal, listed, ranged, null_if};
 ghost use Rattle.lk_types.specs.Shapes.{tier_of, shaped_kind};
-ghost use Rattle.lk_types.specs.Samples.{units, parts, word, only, is, at, interval, days};
+ghost use Rattle.lk_types.specs.Samples.{units, parts, word, only, is, at, interval, days, beside_first_column};
 ghost use Rattle.lk_types.specs.declared.rows.Joined.{Joined};
 ghost use Rattle.lk_types.specs.declared.schema.Frame.TheVariants as frame;
 ghost use Rattle.lk_types.specs.declared.schema.Kind.TheVariants as kind;
@@ -86,8 +86,31 @@ pub fn cells_and_shapes_are_told_apart()
     ensures weekday { shaped_kind (shape.Frame 0 frame.DayOfWeek) kind.Moment ≡ kind.Text }
     ensures date { shaped_kind (shape.Frame 0 frame.Date) kind.Moment ≡ kind.Day }
     ensures each_side { any_equal ((Literal (value.Day (pos 19723)), Column 0 0) ∷ (Literal (word (codes "2024-01-01")), Column 0 1) ∷ [])
-        ≡ Or (Compare comparison.Equal (Literal (value.Day (pos 19723))) (Column 0 0)) (Compare comparison.Equal (Literal (word (codes "2024-01-01"))) (Column 0 1)) }
+        ≡ Or (Or (Literal (value.Truth false)) (Compare comparison.Equal (Literal (value.Day (pos 19723))) (Column 0 0))) (Compare comparison.Equal (Literal (word (codes "2024-01-01"))) (Column 0 1)) }
+    ensures one_item { any_equal ((Column 0 0, Column 0 1) ∷ []) ≡ Or (Literal (value.Truth false)) (Compare comparison.Equal (Column 0 0) (Column 0 1)) }
+    ensures literal_in { listed beside_first_column (Literal (word (codes "2024-01-01"))) (more (Column 0 0) (more (Column 0 1) no_more))
+        ≡ Or (Or (Literal (value.Truth false)) (Compare comparison.Equal (Literal (value.Day (pos 19723))) (Column 0 0))) (Compare comparison.Equal (Literal (word (codes "2024-01-01"))) (Column 0 1)) }
+    ensures in_literals { listed beside_first_column (Column 0 0) (more (Literal (word (codes "2024-01-01"))) (more (Column 0 1) no_more))
+        ≡ In (Column 0 0) (more (Literal (value.Day (pos 19723))) (more (Column 0 1) no_more)) }
+    ensures literal_between { ranged beside_first_column (Literal (word (codes "2024-01-01"))) (Column 0 0) (Column 0 1)
+        ≡ And (Compare comparison.AtLeast (Literal (value.Day (pos 19723))) (Column 0 0)) (Compare comparison.AtMost (Literal (word (codes "2024-01-01"))) (Column 0 1)) }
+    ensures between_literals { ranged beside_first_column (Column 0 0) (Literal (word (codes "2024-01-01"))) (Column 0 1)
+        ≡ Between (Column 0 0) (Literal (value.Day (pos 19723))) (Column 0 1) }
+    ensures literal_or_null { null_if beside_first_column (Literal (word (codes "2024-01-01"))) (Column 0 0)
+        ≡ Case (when (Compare comparison.Equal (Literal (value.Day (pos 19723))) (Column 0 0)) (Literal value.Null) (otherwise (Literal (word (codes "2024-01-01"))))) }
+    ensures null_if_literal { null_if beside_first_column (Column 0 0) (Literal (word (codes "2024-01-01"))) ≡ NullIf (Column 0 0) (Literal (value.Day (pos 19723))) }
     ensures number_on_text { is_filter_of kind.Text (only (is 5 ∷ []) []) ≡ false }
     ensures number_on_number { is_filter_of kind.Number (only (is 5 ∷ []) []) ≡ true }
+    ensures text_is_text { is_filter_of kind.Text (only (test.Like (piece.Any ∷ []) ∷ test.Empty ∷ []) (test.Null ∷ [])) ≡ true }
+    ensures no_pattern { is_filter_of kind.Text (only (test.Like [] ∷ []) []) ≡ false }
+    ensures no_comparison { is_filter_of kind.Number (only (test.Compare [] ∷ []) []) ≡ false }
+    ensures equal_compared { is_filter_of kind.Number (only (test.Compare ((comparison.Equal, record { 0 = pos 5 }) ∷ []) ∷ []) []) ≡ false }
+    ensures no_end { is_filter_of kind.Number (only (test.To None None ∷ []) []) ≡ false }
+    ensures not_null { is_filter_of kind.Day (only [] (test.Null ∷ [])) ≡ true }
+    ensures no_days_out { is_filter_of kind.Day (only [] (days 19723 19724 ∷ [])) ≡ false }
+    ensures this_day { is_filter_of kind.Moment (record { include = test.This period.Day ∷ []; exclude = []; relative = true }) ≡ false }
+    ensures this_week { is_filter_of kind.Moment (record { include = test.This period.Week ∷ []; exclude = []; relative = true }) ≡ true }
+    ensures yes { is_filter_of kind.Truth (only (test.Truth true ∷ []) []) ≡ true }
+    ensures not_yes { is_filter_of kind.Truth (only [] (test.Truth true ∷ [])) ≡ false }
     ensures unmarked { is_filter_of kind.Day (only (test.Today ∷ []) []) ≡ false }
 {}

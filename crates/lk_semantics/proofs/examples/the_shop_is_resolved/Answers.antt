@@ -89,3 +89,21 @@ returns-clause-two_datagroups c = refl
 pub returns-clause-beside_rollup : goal.returns-clause-beside_rollup
 unfolding do_compare
 returns-clause-beside_rollup c = refl
+
+pub returns-clause-list_of_none : goal.returns-clause-list_of_none
+returns-clause-list_of_none c = refl
+
+pub returns-clause-list_of_one : goal.returns-clause-list_of_one
+returns-clause-list_of_one c = refl
+
+pub returns-clause-no_branch : goal.returns-clause-no_branch
+returns-clause-no_branch c = refl
+
+pub returns-clause-no_argument : goal.returns-clause-no_argument
+returns-clause-no_argument c = refl
+
+pub returns-clause-no_interval : goal.returns-clause-no_interval
+returns-clause-no_interval c = refl
+
+pub returns-clause-derived_query : goal.returns-clause-derived_query
+returns-clause-derived_query c = record { explore = refl; picks = refl; joins = refl; fields = refl; measures = refl; kinds = refl; placed = refl; sorts = refl; limit = refl }
