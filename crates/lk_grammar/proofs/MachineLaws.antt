@@ -1,13 +1,15 @@
 -- The machine of a form follows its texts, so what it says of a text is the judgement of the form.
-use Rattle.std.proofs.Common.{◌≡◌, ◌⊎◌, inl, inr, ℕ, zero, suc, Bool, true, false, ◌&&◌, nat_le, List, [], ◌∷◌, ◌++◌, length, Some, None, if◌then◌else◌, refl, sym, ap, subst, ◌∙◌}
+use Rattle.std.proofs.Common.{◌≡◌, ◌⊎◌, inl, inr, ℕ, zero, suc, Bool, true, false, ◌&&◌, nat_le, List, [], ◌∷◌, ◌++◌, length, take, Option, Some, None, option_map, if◌then◌else◌, refl, sym, ap, subst, ◌∙◌}
+use Rattle.std.specs.Option.{is_some, unwrap_or}
 use Rattle.std.specs.List.{list_any, AllByRecursion}
 use Rattle.std.proofs.lemmas.Bool.{false≢true}
 use Rattle.std.proofs.lemmas.List.{append-nil}
-use Rattle.lk_grammar.specs.Places.{IsViable, Judges, FollowsAmong, judge_from}
+use Rattle.lk_grammar.specs.Places.{IsViable, Judges, FollowsAmong, judge_from, place_from, last_from}
 use Rattle.lk_grammar.specs.Forms.{Form, nothing, empty, byte, seq, either, many, nested, IsRuleText, IsTextAt, rule_at, may_end, is_live, are_sound}
-use Rattle.lk_grammar.specs.Steps.{Stack, IsStackText, IsStateText, is_same_stack, with_stack, ways_in, open_rule, ways, stack_ways, state_ways, if_any, step, may_stack_end, may_state_end, judge_of}
+use Rattle.lk_grammar.specs.Steps.{Stack, IsStackText, IsStateText, is_same_stack, with_stack, ways_in, open_rule, ways, stack_ways, state_ways, if_any, step, may_stack_end, may_state_end, start, judge_of}
+use Rattle.lk_grammar.specs.Reaching.{Tells}
 use Rattle.lk_grammar.proofs.FormLaws.{both, and_both, one_of, or_one, or_other, nil_parts, ends, ended, live, rule_lives, rule_owes}
-use Rattle.lk_grammar.proofs.PlaceLaws.{judged_among, same_judgement}
+use Rattle.lk_grammar.proofs.PlaceLaws.{judged_among, same_judgement, goes_further, goes_no_further, place_judged}
 use Rattle.lk_grammar.proofs.StepLaws.{IsBegun, in_both, in_first, of_either, keeps, onward, back}
 
 -- every form of the stack has some text
@@ -44,6 +46,10 @@ module _ (b count depth : ℕ) (opened : ℕ → Stack → List Stack → List S
   lives (either f g) rest found r h = lives g rest _ r (lives f rest found r h)
   lives (many f) rest found r h = lives f ((depth, many f) ∷ rest) found (refl, r) h
   lives (nested rule) rest found r h = opened_lives rule rest found r h
+
+some_mapped : {A B : Type 0} (f : A → B) (o : Option A) → is_some (option_map f o) ≡ is_some o
+some_mapped f None = refl
+some_mapped f (Some x) = refl
 
 started : (b : Bool) (first : List Stack) → b ≡ true → (if b then first else []) ≡ first
 started true first h = refl
@@ -238,6 +244,42 @@ module _ (rules : List Form) (sound : are_sound rules ≡ true) where
       let of_state = judged_among machine_follows (λ s _ e. state_ends s e) (λ s _ e h. false≢true (sym e ∙ state_ended s h)) text first ((l, tt), tt) (t.0, as_state depth form t.0 t.1) in
       let of_form = same_judgement (alone depth form) (as_state depth form) text _ of_state in
       subst (λ s. Judges (IsTextAt rules depth form) text (judge_from (step rules) may_state_end s text)) (sym (started (is_live depth count form) first l)) of_form
+
+  -- the start of the machine of a form that has a text
+  start_lives : (depth : ℕ) (form : Form) → is_live depth count form ≡ true → start rules depth form ≡ ((depth, form) ∷ []) ∷ []
+  start_lives depth form l = started (is_live depth count form) (((depth, form) ∷ []) ∷ []) l
+
+  module _ (depth : ℕ) (form : Form) (text : List ℕ) (b : ℕ) (l : is_live depth count form ≡ true) where
+    abbrev first : List Stack
+    first = ((depth, form) ∷ []) ∷ []
+
+    -- a byte over which the machine goes on where the text stops or ends may follow there
+    pub goes_on : (next : List Stack) → step rules (last_from (step rules) (start rules depth form) text) b ≡ Some next → IsViable (IsTextAt rules depth form) (take (unwrap_or (judge_of rules depth form text) (length text)) text ++ b ∷ [])
+    goes_on next goes =
+        let more = goes_further machine_follows text first next b ((l, tt), tt) (subst (λ s. step rules (last_from (step rules) s text) b ≡ Some next) (start_lives depth form l) goes) in
+        let front = take (place_from (step rules) first text) text ++ b ∷ [] in
+        let viable : IsViable (IsTextAt rules depth form) front = (more.0, alone depth form (front ++ more.0) more.1) in
+        subst (λ n. IsViable (IsTextAt rules depth form) (take n text ++ b ∷ [])) (sym (place_judged (step rules) may_state_end text first) ∙ ap (λ s. unwrap_or (judge_from (step rules) may_state_end s text) (length text)) (sym (start_lives depth form l))) viable
+
+    -- and no other may
+    pub goes_nowhere : step rules (last_from (step rules) (start rules depth form) text) b ≡ None → IsViable (IsTextAt rules depth form) (take (unwrap_or (judge_of rules depth form text) (length text)) text ++ b ∷ []) → ⊥
+    goes_nowhere stops viable =
+        let n = ap (λ s. unwrap_or (judge_from (step rules) may_state_end s text) (length text)) (start_lives depth form l) ∙ place_judged (step rules) may_state_end text first in
+        let more = subst (λ n. IsViable (IsTextAt rules depth form) (take n text ++ b ∷ [])) n viable in
+        goes_no_further machine_follows text first b ((l, tt), tt) (subst (λ s. step rules (last_from (step rules) s text) b ≡ None) (start_lives depth form l) stops)
+        (more.0, as_state depth form _ more.1)
+
+    -- so what the machine goes on over tells what may follow
+    tells_so : (next : Option (List Stack)) → next ≡ step rules (last_from (step rules) (start rules depth form) text) b → Tells (IsViable (IsTextAt rules depth form) (take (unwrap_or (judge_of rules depth form text) (length text)) text ++ b ∷ [])) (is_some next)
+    tells_so None e = (λ h. absurd (false≢true h), λ viable. absurd (goes_nowhere (sym e) viable))
+    tells_so (Some next) e = (λ _. goes_on next (sym e), λ _. refl)
+
+    pub tells : {A : Type 0} (items : A → List Stack) (next : Option A) (answer : Bool) (place : Option ℕ) → answer ≡ is_some next → place ≡ judge_of rules depth form text → option_map items next ≡ step rules (last_from (step rules) (start rules depth form) text) b → Tells (IsViable (IsTextAt rules depth form) (take (unwrap_or place (length text)) text ++ b ∷ [])) answer
+    tells items next answer place p q e =
+        let so = tells_so (option_map items next) e in
+        let same : is_some (option_map items next) ≡ answer = some_mapped items next ∙ sym p in
+        let by_answer = subst (Tells (IsViable (IsTextAt rules depth form) (take (unwrap_or (judge_of rules depth form text) (length text)) text ++ b ∷ []))) same so in
+        subst (λ o. Tells (IsViable (IsTextAt rules depth form) (take (unwrap_or o (length text)) text ++ b ∷ [])) answer) (sym q) by_answer
 
 -- of a form that has no text the machine says 0
 judged_none : (rules : List Form) (text : List ℕ) → judge_from (step rules) may_state_end [] text ≡ Some zero

@@ -1,6 +1,7 @@
 -- The place of a text by any step machine that follows its texts, and the places of two grammars with the same texts.
-use Rattle.std.proofs.Common.{◌≡◌, ℕ, zero, suc, ◌≤◌, Bool, true, false, List, [], ◌∷◌, ◌++◌, take, Option, Some, None, option_map, if◌then◌else◌, refl, arith}
-use Rattle.lk_grammar.specs.Places.{IsViable, IsPlace, IsRefusedAt, Judges, place_after, place_from, judge_after, judge_from, Follows, FollowsAmong}
+use Rattle.std.proofs.Common.{◌≡◌, ℕ, zero, suc, ◌≤◌, Bool, true, false, List, [], ◌∷◌, ◌++◌, length, take, Option, Some, None, option_map, if◌then◌else◌, refl, ap, ◌∙◌, arith}
+use Rattle.std.specs.Option.{unwrap_or}
+use Rattle.lk_grammar.specs.Places.{IsViable, IsPlace, IsRefusedAt, Judges, place_after, place_from, last_after, last_from, judge_after, judge_from, Follows, FollowsAmong}
 
 module _ {S : Type 0} {IsOne : S → Type 0} {step : S → ℕ → Option S} {Texts : S → List ℕ → Type 0} (follows : FollowsAmong IsOne step Texts) where
   -- no byte may come: the place is 0
@@ -35,6 +36,33 @@ module _ {S : Type 0} {IsOne : S → Type 0} {step : S → ℕ → Option S} {Te
         | None ↦ λ stops. stopped state byte text is stops viable
         | Some next ↦ λ goes. gone_on state next byte text (place_from step next text) is goes (place_among text next (follows.stays state next byte is goes) (follows.alive state next byte is goes))
       ] refl
+
+  -- a byte that the machine goes on over begins a text of the state
+  one_more : (state next : S) (byte : ℕ) → IsOne state → step state byte ≡ Some next → IsViable (Texts state) (byte ∷ [])
+  one_more state next byte is goes =
+      let viable = follows.alive state next byte is goes in
+      (viable.0, follows.back state next byte viable.0 is goes viable.1)
+
+  -- a byte that the machine goes on over in its last state may follow the front that it has gone over
+  pub goes_further : (text : List ℕ) (state next : S) (byte : ℕ) → IsOne state → step (last_from step state text) byte ≡ Some next → IsViable (Texts state) (take (place_from step state text) text ++ byte ∷ [])
+  goes_further [] state next byte is goes = one_more state next byte is goes
+  goes_further (c ∷ text) state next byte is goes =
+      elim (step state c) as (λ o. step state c ≡ o → step (last_after state o (λ n. last_from step n text)) byte ≡ Some next → IsViable (Texts state) (take (place_after o (λ n. place_from step n text)) (c ∷ text) ++ byte ∷ [])) [
+        | None ↦ λ _ goes. one_more state next byte is goes
+        | Some n ↦ λ on goes.
+            let more = goes_further text n next byte (follows.stays state n c is on) goes in
+            (more.0, follows.back state n c ((take (place_from step n text) text ++ byte ∷ []) ++ more.0) is on more.1)
+      ] refl goes
+
+  -- and no other
+  pub goes_no_further : (text : List ℕ) (state : S) (byte : ℕ) → IsOne state → step (last_from step state text) byte ≡ None → IsViable (Texts state) (take (place_from step state text) text ++ byte ∷ []) → ⊥
+  goes_no_further [] state byte is stops more = follows.dead state byte more.0 is stops more.1
+  goes_no_further (c ∷ text) state byte is stops more =
+      elim (step state c) as (λ o. step state c ≡ o → step (last_after state o (λ n. last_from step n text)) byte ≡ None → IsViable (Texts state) (take (place_after o (λ n. place_from step n text)) (c ∷ text) ++ byte ∷ []) → ⊥) [
+        | None ↦ λ _ stops more. follows.dead state byte more.0 is stops more.1
+        | Some n ↦ λ on stops more. goes_no_further text n byte (follows.stays state n c is on) stops
+            (more.0, follows.onward state n c ((take (place_from step n text) text ++ byte ∷ []) ++ more.0) is on more.1)
+      ] refl stops more
 
   judged_on : (state next : S) (byte : ℕ) (text : List ℕ) (o : Option ℕ) → IsOne state → step state byte ≡ Some next → Judges (Texts next) text o → Judges (Texts state) (byte ∷ text) (option_map suc o)
   judged_on state next byte text None is goes judged = follows.back state next byte text is goes judged
@@ -73,6 +101,20 @@ module _ {S : Type 0} {step : S → ℕ → Option S} {Texts : S → List ℕ �
 
   pub judged : {may_end : S → Bool} → ((state : S) → may_end state ≡ true → Texts state []) → ((state : S) → may_end state ≡ false → Texts state [] → ⊥) → (text : List ℕ) (state : S) → IsViable (Texts state) [] → Judges (Texts state) text (judge_from step may_end state text)
   judged ends ended text state viable = judged_among among (λ s is h. ends s h) (λ s is h. ended s h) text state tt viable
+
+one_more_than : (o : Option ℕ) (count : ℕ) → unwrap_or (option_map suc o) (suc count) ≡ suc (unwrap_or o count)
+one_more_than None count = refl
+one_more_than (Some n) count = refl
+
+-- what a machine goes over of a text is all of it, or up to the place
+pub place_judged : {S : Type 0} (step : S → ℕ → Option S) (may_end : S → Bool) (text : List ℕ) (state : S) → unwrap_or (judge_from step may_end state text) (length text) ≡ place_from step state text
+place_judged step may_end [] state =
+    elim (may_end state) as (λ b. unwrap_or (if b then None else Some zero) zero ≡ zero) [ true ↦ refl | false ↦ refl ]
+place_judged step may_end (byte ∷ text) state =
+    elim (step state byte) as (λ o. unwrap_or (judge_after o (λ next. judge_from step may_end next text)) (suc (length text)) ≡ place_after o (λ next. place_from step next text)) [
+      | None ↦ refl
+      | Some next ↦ one_more_than (judge_from step may_end next text) (length text) ∙ ap suc (place_judged step may_end text next)
+    ]
 
 module _ {G H : List ℕ → Type 0} (there : (text : List ℕ) → G text → H text) (back : (text : List ℕ) → H text → G text) where
   -- two grammars with the same texts have the same places

@@ -4,6 +4,7 @@ pub mod Coding
 pub mod Shapes
 pub mod Stacks
 pub mod Steps
+pub mod Reaching
 pub mod Words
 pub mod Tokens
 pub mod Listed

@@ -31,6 +31,16 @@ abbrev pub place_from : {S : Type 0} → (S → ℕ → Option S) → S → List
 place_from step state [] = zero
 place_from step state (byte ∷ text) = place_after (step state byte) (λ next. place_from step next text)
 
+-- the state before the machine stops, or else what comes further
+abbrev pub last_after : {S : Type 0} → S → Option S → (S → S) → S
+last_after state None further = state
+last_after state (Some next) further = further next
+
+-- the last state of a step machine over the text: the one in which it stops, or ends
+abbrev pub last_from : {S : Type 0} → (S → ℕ → Option S) → S → List ℕ → S
+last_from step state [] = state
+last_from step state (byte ∷ text) = last_after state (step state byte) (λ next. last_from step next text)
+
 -- none where the machine stops, and one more than from the next state
 abbrev pub judge_after : {S : Type 0} → Option S → (S → Option ℕ) → Option ℕ
 judge_after None judge = Some zero

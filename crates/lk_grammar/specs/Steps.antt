@@ -1,5 +1,5 @@
 -- Steps: what may follow a byte in a form, as stacks of forms that are still to come.
-use Rattle.std.specs.Prelude.{◌≡◌, ◌⊎◌, ℕ, zero, suc, Bool, true, false, ◌&&◌, nat_eq, nat_le, List, [], ◌∷◌, ◌++◌, length, Option, Some, None, if◌then◌else◌}
+use Rattle.std.specs.Prelude.{◌≡◌, ◌⊎◌, ℕ, zero, suc, Bool, true, false, ◌&&◌, ◌||◌, nat_eq, nat_le, List, [], ◌∷◌, ◌++◌, length, Option, Some, None, if◌then◌else◌}
 use Rattle.std.specs.List.{list_any, list_all}
 use Rattle.lk_grammar.specs.Forms.{Form, nothing, empty, byte, seq, either, many, nested, IsJoined, IsTextAt, rule_at, may_end, is_live, is_same_form}
 use Rattle.lk_grammar.specs.Places.{judge_from}
@@ -27,6 +27,16 @@ is_same_stack _ _ = false
 -- the stacks with one more, unless it is among them
 abbrev pub with_stack : Stack → List Stack → List Stack
 with_stack stack found = if list_any (is_same_stack stack) found then found else found ++ stack ∷ []
+
+-- a text of the form may begin with the byte, as far as the form shows it without its rules
+abbrev pub may_begin : ℕ → Form → Bool
+may_begin b nothing = false
+may_begin b empty = false
+may_begin b (byte low high) = nat_le low b && nat_le b high
+may_begin b (seq first second) = may_begin b first || (may_end first && may_begin b second)
+may_begin b (either one other) = may_begin b one || may_begin b other
+may_begin b (many form) = may_begin b form
+may_begin b (nested rule) = true
 
 -- the stacks found so far, with those that may follow the byte in the form before the rest; rules are opened by a function
 abbrev pub ways_in : (ℕ → Stack → List Stack → List Stack) → ℕ → ℕ → ℕ → Form → Stack → List Stack → List Stack

@@ -1,6 +1,7 @@
 ghost use Rattle.std.specs.Prelude.{◌≡◌, IfOk, length};
 ghost use Rattle.lk_grammar.specs.Words.{exactly, char, letters, any_of, spaces, free, word};
 ghost use Rattle.lk_grammar.specs.Forms.{nothing, empty, byte, seq, either, many, nested, optional, choice, sequence, may_end, is_live, is_same_form};
+ghost use Rattle.lk_grammar.specs.Steps.{may_begin};
 ghost use Rattle.std.specs.Vec.Iter.{into_iter_items};
 
 use lk_val::NoMemory;
@@ -243,6 +244,21 @@ impl Form {
             Shape::Empty | Shape::Many(_) => true,
             Shape::Seq(first, second) => first.may_end() && second.may_end(),
             Shape::Either(one, other) => one.may_end() || other.may_end(),
+        }
+    }
+
+    /// Whether a text of the form may begin with the byte, as far as the form shows it without its rules.
+    pub(crate) fn may_begin(&self, byte: u8) -> bool
+        ensures { result ≡ may_begin byte self.now }
+    {
+        match &self.shape {
+            Shape::Nothing | Shape::Empty => false,
+            Shape::Byte(low, high) => *low <= byte && byte <= *high,
+            Shape::Seq(first, second) => first.may_begin(byte)
+                || first.may_end() && second.may_begin(byte),
+            Shape::Either(one, other) => one.may_begin(byte) || other.may_begin(byte),
+            Shape::Many(form) => form.may_begin(byte),
+            Shape::Nested(_) => true,
         }
     }
 

@@ -1,10 +1,9 @@
 ghost use Rattle.std.specs.Prelude.{◌≡◌, true, false, Some, IfOk, length};
 ghost use Rattle.lk_grammar.specs.Forms.{IsText, IsTextAt, is_live, are_sound};
 ghost use Rattle.lk_grammar.specs.Places.{Judges};
-ghost use Rattle.lk_grammar.specs.Steps.{judge_of};
 
 use crate::form::Form;
-use crate::steps::{may_end, start, step};
+use crate::reaching::Reached;
 use lk_val::NoMemory;
 use std::alloc::Global;
 
@@ -28,29 +27,5 @@ pub fn judge_nested(
     ensures judged { are_sound rules.now ≡ true → is_live depth (length rules.now) form.now ≡ true → IfOk result (Judges (IsTextAt rules.now depth form.now) text.now) }
     ensures dead { is_live depth (length rules.now) form.now ≡ false → IfOk result (λ place. place ≡ Some 0) }
 {
-    walk(alloc, rules, depth, form, text)
-}
-
-fn walk(
-    alloc: Global,
-    rules: &[Form],
-    depth: usize,
-    form: &Form,
-    text: &[u8],
-) -> Result<Option<usize>, NoMemory>
-    ensures { IfOk result (λ place. place ≡ judge_of rules.now depth form.now text.now) }
-{
-    let mut stacks = start(alloc, rules, depth, form)?;
-    let mut place = 0;
-    for byte in text {
-        match step(alloc, rules, stacks.as_slice(), *byte)? {
-            None => return Ok(Some(place)),
-            Some(next) => stacks = next,
-        }
-        place += 1;
-    }
-    if may_end(stacks.as_slice()) {
-        return Ok(None);
-    }
-    Ok(Some(place))
+    Ok(Reached::of(alloc, rules, depth, form, text)?.place())
 }

@@ -1,4 +1,4 @@
-ghost use Rattle.std.specs.Prelude.{◌≡◌, ◌<◌, ◌≤◌, ◌-◌, List, [], OnOk, IfOk, IfNone, OnSome, IfSome, option_map};
+ghost use Rattle.std.specs.Prelude.{◌≡◌, ◌<◌, ◌≤◌, ◌-◌, ℕ, false, List, [], OnOk, IfOk, IfNone, OnSome, IfSome, option_map};
 ghost use Rattle.std.specs.List.{sum_by};
 ghost use Rattle.lk_grammar.specs.Forms.{form_size};
 ghost use Rattle.lk_grammar.specs.Steps.{Stack, open_rule, ways, stack_ways, state_ways, step, may_state_end, start};
@@ -33,7 +33,16 @@ impl<'a> Search<'a> {
         Some(&self.rules[rule])
     }
 
-    /// Adds the stacks that may follow the byte in the form before the rest to those found.
+    /// Whether something may be found in the form: a text of it may begin with the byte.
+    #[tactic(auto, using(crate::proofs::StepLemmas::nothing_begun))]
+    fn may_begin(&self, form: &Form) -> bool
+        ensures { result ≡ false → (depth : ℕ) (rest : Stack) (found : List Stack) → ways self.now.rules.now self.now.byte depth form.now rest found ≡ found }
+    {
+        form.may_begin(self.byte)
+    }
+
+    /// Adds the stacks that may follow the byte in the form before the rest to those found. Where the byte can't come
+    /// next, no stack is made.
     fn ways(
         &self,
         depth: usize,
@@ -52,7 +61,7 @@ impl<'a> Search<'a> {
                 Ok(())
             }
             Shape::Seq(first, second) => {
-                if second.is_live(depth, self.rules.len()) {
+                if self.may_begin(first) && second.is_live(depth, self.rules.len()) {
                     let longer = Stack::of(self.alloc, depth, second, rest)?;
                     self.ways(depth, first, &longer, found)?;
                 }
@@ -66,8 +75,11 @@ impl<'a> Search<'a> {
                 self.ways(depth, other, rest, found)
             }
             Shape::Many(repeated) => {
-                let longer = Stack::of(self.alloc, depth, form, rest)?;
-                self.ways(depth, repeated, &longer, found)
+                if self.may_begin(repeated) {
+                    let longer = Stack::of(self.alloc, depth, form, rest)?;
+                    self.ways(depth, repeated, &longer, found)?;
+                }
+                Ok(())
             }
             Shape::Nested(rule) => {
                 if let Some(opened) = self.opened(depth, *rule) {
