@@ -1,9 +1,8 @@
 #!/bin/sh
 # Times `read_expr` on right texts of 1 KB to 1 MB, and on the same texts with a fault at their end. A measurement, not a
-# test: it builds a program in a folder of its own, which proves it first. A chain of many ORs is a tree as deep as the chain
-# is long, which is let go by recursion: hence the stack.
-crates='lk_val lk_types lk_grammar lk_utf8 lk_expr_token lk_expr_tree lk_expr_text lk_expr_place'
-uses='lk_val lk_expr_tree lk_expr_place'
+# test: it builds a program in a folder of its own, which proves it first.
+crates='lk_val lk_postfix lk_types lk_grammar lk_utf8 lk_expr_token lk_expr_tree lk_expr_text lk_expr_place'
+uses='lk_val lk_expr_place'
 . "$(dirname "$0")/workspace.sh"
 cat >"$work/crates/timing/src/main.rt" <<'END'
 //! Times `read_expr` on right texts and on refused ones.
@@ -104,4 +103,4 @@ fn main(rt: HostRuntime) -> io::Result<()> {
     Ok(())
 }
 END
-cd "$work/crates/timing" && touch stdin && ulimit -s unlimited && rt run
+cd "$work/crates/timing" && touch stdin && rt run

@@ -6,6 +6,7 @@ use Rattle.std.specs.Option.{unwrap_or, ForSome}
 use Rattle.std.proofs.lemmas.Bool.{false≢true, cases_lt}
 use Rattle.std.proofs.lemmas.Option.{some_pair_parts, same_Some, slice_get_within, get_or_from_slice_get}
 use Rattle.std.proofs.lemmas.List.{take-append-drop, take-map, map-append, length-map}
+use Rattle.std.proofs.lemmas.List.{take_all}
 use Rattle.std.proofs.Math.Seq.{take-append_seam, take-append-add, take-suc, length-take-le}
 use Rattle.lk_grammar.specs.Places.{IsViable, IsPlace, Judges}
 use Rattle.lk_grammar.proofs.ReadingLaws.{place_of_judged}
@@ -18,7 +19,7 @@ use Rattle.lk_expr_token.specs.TokenFronts.{is_unread, IsOfTerminal, IsUnreadAt,
 use Rattle.lk_expr_token.proofs.LexSteps.{no_some}
 use Rattle.lk_expr_token.proofs.LexLaws.{token_found}
 use Rattle.lk_expr_token.proofs.TerminalLaws.{EndsSo, same_head, token_before, terminal_at_end, of_terminal, IsSolid, token_solid, solid_stays}
-use Rattle.lk_expr_place.specs.SyntaxPlaces.{IsSyntaxPlace, IsTerminalText, MayFollow, IsNoNext, IsLongest, IsStart}
+use Rattle.lk_expr_place.specs.SyntaxPlaces.{IsSyntaxPlace, IsTerminalText, MayFollow, IsLongest, IsStart}
 use Rattle.lk_expr_token.proofs.TerminalsKnown.{terminal_there}
 use Rattle.lk_expr_token.proofs.FrontTokens.{skip_gap, skips_all, solid_more, behind_spelled}
 use Rattle.lk_expr_place.proofs.ReadFronts.{solid_not_spaces, gap_same, IsFront, moved, step_text, step_first, glued, front_then, followed, IsRun, run, IsCut, cut, one_token, same_unread, sampled, ends_sampled, terminal_before, spelled_samples}
@@ -327,14 +328,6 @@ module _ (Terminals : List ℕ → Type 0) (tokens_of : (bytes : List ℕ) → T
       all : (k : ℕ) → IsUnreadAt text k → (is_unread r.rest ≡ true) × (k + length r.rest ≡ length text)
       all k u = same_unread (length text) (λ z. (is_unread z ≡ true) × (k + length z ≡ length text)) r.tokens u.0 r.front r.rest (λ z b. b.0) r.stopped r.stays r.read (subst (IsSpelledThen (length text) (λ z. (is_unread z ≡ true) × (k + length z ≡ length text)) u.0) r.joined u.1)
 
--- the terminal at the place of a list may not stand there
-pub refused_there : (Terminals : List ℕ → Type 0) (bytes : List ℕ) (place : ℕ) → IsPlace Terminals bytes place → ForSome (slice_get bytes place) (IsNoNext Terminals (take place bytes))
-refused_there Terminals bytes place at b e viable =
-    let inside : place < length bytes = slice_get_within bytes place b e in
-    let front : take (suc place) bytes ≡ take place bytes ++ b ∷ [] = take-suc bytes place 0 inside ∙ ap (λ z. take place bytes ++ z ∷ []) (get_or_from_slice_get bytes place b 0 e) in
-    let more = at.longest (suc place) (omega (arith, inside)) (subst (IsViable Terminals) (sym front) viable) in
-    omega (arith, more)
-
 -- ---- the longest start of a token of some terminals
 
 module _ (Terminals : List ℕ → Type 0) (terminals rest : List ℕ) where
@@ -363,3 +356,9 @@ module _ (Terminals : List ℕ → Type 0) (terminals rest : List ℕ) where
     begins = inr (k, may, at.begins);
     longest = ((λ _. at.longest), no_less own best long ks h.longest);
   }
+
+-- ---- fronts
+
+-- no more than all of a list is taken
+pub taken_whole : (n : ℕ) (xs : List ℕ) → length xs ≤ n → take n xs ≡ xs
+taken_whole n xs most = take_all n xs most

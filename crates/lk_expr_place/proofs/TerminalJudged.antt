@@ -1,12 +1,12 @@
 -- The terminals of both grammars: their place is that of the form, and each list of tokens with such terminals has a tree.
-use Rattle.std.proofs.Common.{◌≡◌, ℕ, suc, ◌≤◌, ◌<◌, true, List, [], ◌∷◌, ◌++◌, length, take, length-append, map, Option, Some, None, Result, IfOk, refl, sym, ap, subst, ◌∙◌, append-nil, arith}
-use Rattle.std.proofs.lemmas.Bool.{ltb-true}
-use Rattle.std.proofs.lemmas.Bool.Decides.{Decides-ltb}
+use Rattle.std.proofs.Common.{◌≡◌, ℕ, ◌≤◌, Bool, true, List, [], ◌∷◌, ◌++◌, length, map, Option, Result, IfOk, refl, sym, subst}
 use Rattle.std.proofs.lemmas.Result.{IfOk-weaker}
-use Rattle.std.proofs.Math.Seq.{take-length}
 use Rattle.lk_grammar.specs.Forms.{Form, IsTextAt, are_sound, is_live}
 use Rattle.lk_grammar.specs.Places.{IsViable, Judges}
+use Rattle.lk_grammar.specs.Reaching.{HasReached, Tells, reached_front}
+use Rattle.lk_grammar.specs.declared.reaching.Reached.{Reached}
 use Rattle.lk_grammar.proofs.PlaceLaws.{same_judgement}
+use Rattle.lk_grammar.proofs.MachineLaws.{judged}
 use Rattle.lk_expr_token.specs.declared.token.Token.{Token}
 use Rattle.lk_expr_tree.specs.Grammar.{Tree, print, is_built, nests}
 use Rattle.lk_expr_tree.specs.Calls.{is_measure}
@@ -14,7 +14,7 @@ use Rattle.lk_expr_token.specs.Terminals.{token_byte}
 use Rattle.lk_expr_place.specs.declared.judging.Grammar.{Grammar}
 use Rattle.lk_expr_place.specs.declared.judging.Grammar.TheVariants.{Expressions, Measures}
 use Rattle.lk_expr_place.specs.GrammarForms.{named_form, case_form, atom_form, unary_form, term_form, sum_form, tail_form, test_form, not_form, and_form, expr_form, expr_rules, measure_atom, measure_unary, measure_term, measure_form, measure_rules}
-use Rattle.lk_expr_place.specs.TerminalGrammar.{IsExprTerminals, IsMeasureTerminals, IsTerminals, grammar_rules, grammar_form, is_beyond}
+use Rattle.lk_expr_place.specs.TerminalGrammar.{IsExprTerminals, IsMeasureTerminals, IsTerminals, grammar_rules, grammar_form}
 use Rattle.lk_expr_place.proofs.TerminalMeasures.{measure_as_form, measure_from_form, measure_terminals}
 use Rattle.lk_expr_place.proofs.TerminalExprs.{expr_as_form, expr_from_form, expr_terminals}
 use Rattle.lk_expr_place.proofs.TerminalTrees.{is_meant}
@@ -50,33 +50,34 @@ terminals_judged : (g : Grammar) (bytes : List ℕ) (o : Option ℕ) → Judges 
 terminals_judged Expressions bytes o h = same_judgement expr_terminals expr_as_form bytes o h
 terminals_judged Measures bytes o h = same_judgement measure_terminals measure_as_form bytes o h
 
--- what judges the form of a grammar judges its terminals
-pub judged_by : {E : Type 0} (g : Grammar) (rules : List Form) (form : Form) (bytes : List ℕ) (r : Result (Option ℕ) E) → rules ≡ grammar_rules g → form ≡ grammar_form g → (are_sound rules ≡ true → is_live 100 (length rules) form ≡ true → IfOk r (Judges (IsTextAt rules 100 form) bytes)) → IfOk r (Judges (IsTerminals g) bytes)
-judged_by g rules form bytes r p q h =
-    let by_rules = subst (λ z. are_sound z ≡ true → is_live 100 (length z) form ≡ true → IfOk r (Judges (IsTextAt z 100 form) bytes)) p h in
-    let by_form = subst (λ z. are_sound (grammar_rules g) ≡ true → is_live 100 (length (grammar_rules g)) z ≡ true → IfOk r (Judges (IsTextAt (grammar_rules g) 100 z) bytes)) q by_rules in
-    IfOk-weaker r (Judges (IsTextAt (grammar_rules g) 100 (grammar_form g)) bytes) (Judges (IsTerminals g) bytes) (terminals_judged g bytes) (by_form (rules_sound g) (form_lives g))
+-- how far the form of a grammar goes is how far its terminals go
+pub reached_judged : (g : Grammar) (bytes : List ℕ) (reached : Reached) → HasReached (grammar_rules g) 100 (grammar_form g) bytes reached → Judges (IsTerminals g) bytes reached.place
+reached_judged g bytes reached h =
+    subst (Judges (IsTerminals g) bytes) (sym h.place_is)
+    (terminals_judged g bytes _ (judged (grammar_rules g) (rules_sound g) 100 (grammar_form g) bytes (form_lives g)))
 
 -- ---- what may follow
 
-module _ (G : List ℕ → Type 0) (front : List ℕ) (b : ℕ) where
-  one_longer : length (front ++ b ∷ []) ≡ suc (length front)
-  one_longer = omega (arith, length-append front (b ∷ []))
+viable_there : (g : Grammar) (front : List ℕ) → IsViable (IsTextAt (grammar_rules g) 100 (grammar_form g)) front → IsViable (IsTerminals g) front
+viable_there Expressions front v = (v.0, expr_terminals (front ++ v.0) v.1)
+viable_there Measures front v = (v.0, measure_terminals (front ++ v.0) v.1)
 
-  -- where the place is beyond the front, the byte may follow it
-  pub follows : (o : Option ℕ) → Judges G (front ++ b ∷ []) o → is_beyond o (length front) ≡ true → IsViable G (front ++ b ∷ [])
-  follows None judged h = ([], subst G (sym (append-nil (front ++ b ∷ []))) judged)
-  follows (Some n) judged h =
-      let text = front ++ b ∷ [] in
-      let beyond : length front < n = ltb-true (length front) n h in
-      let within : n ≤ length text = judged.at_place.within in
-      let whole : n ≡ length text = omega (arith, one_longer) in
-      subst (λ z. IsViable G z) (ap (λ z. take z text) whole ∙ take-length text) judged.at_place.begins
+viable_back : (g : Grammar) (front : List ℕ) → IsViable (IsTerminals g) front → IsViable (IsTextAt (grammar_rules g) 100 (grammar_form g)) front
+viable_back Expressions front v = (v.0, expr_as_form (front ++ v.0) v.1)
+viable_back Measures front v = (v.0, measure_as_form (front ++ v.0) v.1)
 
-  -- and where the byte may follow, the place is beyond the front
-  pub followed : (o : Option ℕ) → Judges G (front ++ b ∷ []) o → IsViable G (front ++ b ∷ []) → is_beyond o (length front) ≡ true
-  followed None judged viable = refl
-  followed (Some n) judged viable =
-      let text = front ++ b ∷ [] in
-      let upto : length text ≤ n = judged.at_place.longest (length text) (omega arith) (subst (λ z. IsViable G z) (sym (take-length text)) viable) in
-      (Decides-ltb (length front) n).1 (omega (arith, one_longer))
+-- what may come where the form stops, and no other terminal, may follow the terminals
+told : (g : Grammar) (front terminals : List ℕ) (b : ℕ) (may : Bool) → terminals ≡ front → Tells (IsViable (IsTextAt (grammar_rules g) 100 (grammar_form g)) (front ++ b ∷ [])) may → Tells (IsViable (IsTerminals g) (terminals ++ b ∷ [])) may
+told g front terminals b may same tells = (
+  (λ yes. subst (λ z. IsViable (IsTerminals g) (z ++ b ∷ [])) (sym same) (viable_there g (front ++ b ∷ []) (tells.0 yes))),
+  (λ viable. tells.1 (viable_back g (front ++ b ∷ []) (subst (λ z. IsViable (IsTerminals g) (z ++ b ∷ [])) same viable))),
+)
+
+pub may_follow_there : {E : Type 0} (g : Grammar) (terminals all : List ℕ) (b c : ℕ) (reached : Reached) (r : Result Bool E) → HasReached (grammar_rules g) 100 (grammar_form g) all reached → terminals ≡ reached_front reached all → b ≡ c
+    → ((rules : List Form) (depth : ℕ) (form : Form) (text : List ℕ) → HasReached rules depth form text reached → are_sound rules ≡ true → is_live depth (length rules) form ≡ true → IfOk r (Tells (IsViable (IsTextAt rules depth form) (reached_front reached text ++ b ∷ []))))
+    → IfOk r (Tells (IsViable (IsTerminals g) (terminals ++ c ∷ [])))
+may_follow_there g terminals all b c reached r goes front same may =
+    subst (λ z. IfOk r (Tells (IsViable (IsTerminals g) (terminals ++ z ∷ [])))) same
+    (IfOk-weaker r (Tells (IsViable (IsTextAt (grammar_rules g) 100 (grammar_form g)) (reached_front reached all ++ b ∷ []))) (Tells (IsViable (IsTerminals g) (terminals ++ b ∷ [])))
+    (λ answer tells. told g (reached_front reached all) terminals b answer front tells)
+    (may (grammar_rules g) 100 (grammar_form g) all goes (rules_sound g) (form_lives g)))

@@ -25,10 +25,6 @@ IsTerminalText Terminals text = (ts : List Token) × IsSpelled (length text) ts 
 abbrev pub MayFollow : (List ℕ → Type 0) → List ℕ → Terminal → Type 0
 MayFollow Terminals terminals terminal = IsViable Terminals (terminals ++ terminal_byte terminal ∷ [])
 
--- no token of the terminal with the byte may stand behind the terminals
-abbrev pub IsNoNext : (List ℕ → Type 0) → List ℕ → ℕ → Type 0
-IsNoNext Terminals terminals byte = IsViable Terminals (terminals ++ byte ∷ []) → ⊥
-
 -- no front of the rest that is longer begins a token of the terminal
 abbrev pub IsLongest : List ℕ → ℕ → Terminal → Type 0
 IsLongest rest n terminal = (m : ℕ) → m ≤ length rest → IsViable (IsOfTerminal terminal) (take m rest) → m ≤ n

@@ -1,5 +1,5 @@
 -- The lists of terminals that the trees of expressions and of measures print, each terminal as its byte.
-use Rattle.std.specs.Prelude.{◌≡◌, ℕ, ◌≤◌, nat_lt, Bool, true, List, map, Option, Some, None}
+use Rattle.std.specs.Prelude.{◌≡◌, ℕ, ◌≤◌, true, List, map}
 use Rattle.lk_grammar.specs.Forms.{Form}
 use Rattle.lk_expr_tree.specs.Grammar.{Tree, print, is_built, nests}
 use Rattle.lk_expr_tree.specs.Calls.{is_measure}
@@ -31,8 +31,3 @@ grammar_rules Measures = measure_rules
 abbrev pub grammar_form : Grammar → Form
 grammar_form Expressions = expr_form
 grammar_form Measures = measure_form
-
--- the place is beyond so many bytes, or there is none
-abbrev pub is_beyond : Option ℕ → ℕ → Bool
-is_beyond None count = true
-is_beyond (Some place) count = nat_lt count place

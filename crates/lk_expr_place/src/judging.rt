@@ -1,13 +1,10 @@
-ghost use Rattle.std.specs.Prelude.{◌≡◌, ◌++◌, ◌∷◌, [], true, IfOk, Option};
-ghost use Rattle.lk_grammar.specs.Places.{Judges};
-ghost use Rattle.lk_expr_token.specs.Terminals.{terminal_byte};
-ghost use Rattle.lk_expr_place.specs.TerminalGrammar.{IsTerminals, grammar_form, grammar_rules, is_beyond};
-ghost use Rattle.lk_expr_place.specs.SyntaxPlaces.{MayFollow};
+ghost use Rattle.std.specs.Prelude.{◌≡◌, IfOk};
+ghost use Rattle.lk_grammar.specs.Reaching.{HasReached};
+ghost use Rattle.lk_expr_place.specs.TerminalGrammar.{grammar_form, grammar_rules};
 
 use crate::expr_forms::{expr_form, expr_rules};
 use crate::measure_forms::{measure_form, measure_rules};
-use lk_expr_token::{Terminal, terminal_byte};
-use lk_grammar::{Form, judge_nested};
+use lk_grammar::{Form, Reached};
 use lk_val::NoMemory;
 use std::alloc::Global;
 
@@ -29,6 +26,7 @@ pub struct Judge {
 }
 
 impl Judge {
+    /// The judge of a grammar.
     pub fn of(alloc: Global, grammar: Grammar) -> Result<Judge, NoMemory>
         ensures { IfOk result (λ judge. judge.grammar ≡ grammar) }
     {
@@ -39,27 +37,11 @@ impl Judge {
         })
     }
 
-    /// The place of a list of terminals: none where the tokens of some tree of the grammar have these terminals, and
-    /// else the length of the longest front of the list that goes on to the terminals of such a tree.
-    pub fn place_of(&self, alloc: Global, terminals: &[u8]) -> Result<Option<usize>, NoMemory>
-        ensures { IfOk result (Judges (IsTerminals self.now.grammar) terminals.now) }
+    /// Goes over a list of terminals as far as it goes on to those of some tree of the grammar.
+    pub fn reach<'a>(&'a self, alloc: Global, terminals: &[u8]) -> Result<Reached<'a>, NoMemory>
+        ensures { IfOk result (HasReached (grammar_rules self.now.grammar) 100 (grammar_form self.now.grammar) terminals.now) }
     {
-        judge_nested(alloc, self.rules.as_slice(), 100, &self.form, terminals)
-    }
-
-    /// Whether a token of the terminal may come behind tokens of these terminals in some text of the grammar.
-    pub fn may_follow(
-        &self,
-        alloc: Global,
-        terminals: &[u8],
-        terminal: Terminal,
-    ) -> Result<bool, NoMemory>
-        ensures sound { IfOk result (λ may. may ≡ true → MayFollow (IsTerminals self.now.grammar) terminals.now terminal) }
-        ensures every { IfOk result (λ may. MayFollow (IsTerminals self.now.grammar) terminals.now terminal → may ≡ true) }
-    {
-        let more = with_terminal(alloc, terminals, terminal)?;
-        let place = self.place_of(alloc, more.as_slice())?;
-        Ok(is_beyond(place, terminals.len()))
+        Reached::of(alloc, self.rules.as_slice(), 100, &self.form, terminals)
     }
 }
 
@@ -78,23 +60,5 @@ fn grammar_rules(alloc: Global, grammar: Grammar) -> Result<Vec<Form>, NoMemory>
     match grammar {
         Grammar::Expressions => expr_rules(alloc),
         Grammar::Measures => measure_rules(alloc),
-    }
-}
-
-fn with_terminal(alloc: Global, terminals: &[u8], terminal: Terminal) -> Result<Vec<u8>, NoMemory>
-    ensures { IfOk result (λ more. more.items ≡ terminals.now ++ terminal_byte terminal ∷ []) }
-{
-    let mut more = Vec::new(alloc);
-    more.extend_from_slice(terminals)?;
-    more.push(terminal_byte(terminal))?;
-    Ok(more)
-}
-
-fn is_beyond(place: Option<usize>, length: usize) -> bool
-    ensures { result ≡ is_beyond place length }
-{
-    match place {
-        None => true,
-        Some(place) => length < place,
     }
 }
