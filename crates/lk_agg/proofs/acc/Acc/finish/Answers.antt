@@ -1,0 +1,19 @@
+use Rattle.std.proofs.Common.{◌≡◌, ℕ, List, ◌∙◌, ap, map, subst}
+use Rattle.std.specs.Prelude.{IfErr, IfOk, Option, None}
+use Rattle.lk_val.specs.declared.value.Value.{Value}
+use Rattle.lk_semantics.specs.Measures.{first_conflict, group_rows}
+use Rattle.lk_types.specs.declared.answer.GroupRow.{GroupRow}
+use Rattle.lk_agg.specs.Finishing.{IsFaultOf, conflict_among, row_of}
+use Rattle.lk_agg.proofs.FinishingLaws.{conflict_among-gathered, rows-gathered}
+use Rattle.lk_agg.proofs.acc.Acc.finish.Goals as goal
+
+pub returns-clause-ok : goal.returns-clause-ok
+returns-clause-ok c = λ dims ops rows taken regular.
+    let conflict : conflict_among c.args.self.groups.entries ≡ first_conflict dims ops rows = ap conflict_among taken.groups ∙ conflict_among-gathered dims ops rows regular in
+    let made : map row_of c.args.self.groups.entries ≡ group_rows dims ops rows = ap (map row_of) taken.groups ∙ rows-gathered dims ops rows regular in
+    subst (λ (p : Option (ℕ × Value) × List GroupRow). IfOk c.finish_groups.result (λ groups. (p.0 ≡ None) × (groups ≡ p.1))) (λ i. (conflict i, made i)) c.finish_groups.ensures.ok
+
+pub returns-clause-conflict : goal.returns-clause-conflict
+returns-clause-conflict c = λ dims ops rows taken regular.
+    let conflict : conflict_among c.args.self.groups.entries ≡ first_conflict dims ops rows = ap conflict_among taken.groups ∙ conflict_among-gathered dims ops rows regular in
+    subst (λ (p : Option (ℕ × Value)). IfErr c.finish_groups.result (λ fault. IsFaultOf fault p)) conflict c.finish_groups.ensures.conflict

@@ -1,0 +1,7 @@
+pub mod Given
+pub mod Tallies
+pub mod Columns
+pub mod Regular
+pub mod Gathering
+pub mod Finishing
+pub mod Merging

@@ -1,0 +1,204 @@
+ghost use Rattle.std.specs.Prelude.{◌≡◌, IfOk, OnOk, map};
+ghost use Rattle.lk_semantics.specs.Measures.{lesser, greater, unless_counted};
+ghost use Rattle.std.specs.Ordering.{is_lt, is_gt};
+ghost use Rattle.lk_val.specs.ValueRefs.{value_of_ref};
+ghost use Rattle.lk_val.specs.Values.{is_null, null_last_cmp, value_cmp};
+ghost use Rattle.lk_agg.specs.Columns.{fresh, with_cells, with_entry, with_given, with_key, with_pair, with_place, with_value};
+ghost use Rattle.lk_agg.specs.Given.{given_cells, key_value_of};
+
+use crate::given::{Given, KeyRef, given_at};
+use crate::sorted::Sorted;
+use crate::tally::Tally;
+use lk_types::{Op, Pair};
+use lk_val::{Items, NoMemory, Value, ValueRef};
+use std::alloc::Global;
+use std::cmp::Ordering;
+
+// What a group keeps for a measure: the pairs of its keys and values beside a tally of the rows without keys, its
+// different values, or its least or greatest value.
+#[derive(Drop)]
+pub(crate) enum Column {
+    Count(Sorted<Pair>, Tally),
+    Sum(Sorted<Pair>, Tally),
+    SumDistinct(Sorted<Pair>, Tally),
+    Average(Sorted<Pair>, Tally),
+    AverageDistinct(Sorted<Pair>, Tally),
+    Different(Sorted<Value>),
+    Least(Value),
+    Greatest(Value),
+    Nothing,
+}
+
+// A column for each measure, before any row.
+pub(crate) fn fresh_columns(alloc: Global, ops: &[Op]) -> Result<Items<Column>, NoMemory>
+    ensures { IfOk result (λ columns. columns ≡ map fresh ops.now) }
+{
+    let mut columns = Items::new(alloc);
+    for op in ops {
+        columns.push(fresh(alloc, *op))?;
+    }
+    Ok(columns)
+}
+
+fn fresh(alloc: Global, op: Op) -> Column
+    ensures { result ≡ fresh op }
+{
+    match op {
+        Op::Count => Column::Count(Sorted::new(alloc), Tally::new()),
+        Op::Sum => Column::Sum(Sorted::new(alloc), Tally::new()),
+        Op::SumDistinct => Column::SumDistinct(Sorted::new(alloc), Tally::new()),
+        Op::Average => Column::Average(Sorted::new(alloc), Tally::new()),
+        Op::AverageDistinct => Column::AverageDistinct(Sorted::new(alloc), Tally::new()),
+        Op::CountDistinct => Column::Different(Sorted::new(alloc)),
+        Op::Min => Column::Least(Value::Null),
+        Op::Max => Column::Greatest(Value::Null),
+        Op::Number => Column::Nothing,
+    }
+}
+
+// The columns with what one more row gives to each.
+pub(crate) fn with_cells(
+    alloc: Global,
+    columns: Items<Column>,
+    cells: Given<'_>,
+    place: u64,
+) -> Result<Items<Column>, NoMemory>
+    ensures { IfOk result (λ more. more ≡ with_cells 0 place (given_cells cells.entry) columns) }
+{
+    let mut all = columns.into_vec();
+    for i in 0..all.len() {
+        add_given(alloc, &mut all[i], given_at(cells, i), place)?;
+    }
+    Ok(Items::from_vec(all))
+}
+
+fn add_given(
+    alloc: Global,
+    column: &mut Column,
+    given: KeyRef<'_>,
+    place: u64,
+) -> Result<(), NoMemory>
+    ensures { OnOk result (column.new ≡ with_given place (key_value_of given.entry) column.old) }
+{
+    if given.counts {
+        add_entry(alloc, column, given, place)?;
+    }
+    Ok(())
+}
+
+#[tactic(auto, using(crate::proofs::ColumnLaws::lesser_by, crate::proofs::ColumnLaws::greater_by))]
+fn add_entry(
+    alloc: Global,
+    column: &mut Column,
+    given: KeyRef<'_>,
+    place: u64,
+) -> Result<(), NoMemory>
+    ensures { OnOk result (column.new ≡ with_entry (place, key_value_of given.entry) column.old) }
+{
+    match column {
+        Column::Count(pairs, tally) => add_key(alloc, pairs, tally, Op::Count, given),
+        Column::Sum(pairs, tally) => add_key(alloc, pairs, tally, Op::Sum, given),
+        Column::SumDistinct(pairs, tally) => add_key(alloc, pairs, tally, Op::SumDistinct, given),
+        Column::Average(pairs, tally) => add_key(alloc, pairs, tally, Op::Average, given),
+        Column::AverageDistinct(pairs, tally) => {
+            add_key(alloc, pairs, tally, Op::AverageDistinct, given)
+        }
+        Column::Different(values) => add_value(alloc, values, given.value),
+        Column::Least(value) => {
+            if is_lesser(given.value, value.as_ref()) {
+                *value = given.value.to_value(alloc)?;
+            }
+            Ok(())
+        }
+        Column::Greatest(value) => {
+            if is_greater(given.value, value.as_ref()) {
+                *value = given.value.to_value(alloc)?;
+            }
+            Ok(())
+        }
+        Column::Nothing => Ok(()),
+    }
+}
+
+// Adds the pair of a row with a key, and tallies one without.
+fn add_key(
+    alloc: Global,
+    pairs: &mut Sorted<Pair>,
+    tally: &mut Tally,
+    op: Op,
+    given: KeyRef<'_>,
+) -> Result<(), NoMemory>
+    ensures pairs { OnOk result (pairs.new ≡ with_key op (key_value_of given.entry) pairs.old) }
+    ensures tally { OnOk result (tally.new ≡ with_place (key_value_of given.entry) tally.old) }
+{
+    match given.key {
+        None => tally.add(given.value),
+        Some(key) => add_pair(alloc, pairs, op, key, given.value),
+    }
+}
+
+fn add_pair(
+    alloc: Global,
+    pairs: &mut Sorted<Pair>,
+    op: Op,
+    key: ValueRef<'_>,
+    value: ValueRef<'_>,
+) -> Result<(), NoMemory>
+    ensures { OnOk result (pairs.new
+        ≡ with_pair op (value_of_ref key.entry) (value_of_ref value.entry) pairs.old) }
+{
+    if is_null(key) {
+        return Ok(());
+    }
+    pairs.insert(Pair {
+        key: key.to_value(alloc)?,
+        value: unless_counted(alloc, op, value)?,
+    })?;
+    Ok(())
+}
+
+fn add_value(alloc: Global, values: &mut Sorted<Value>, value: ValueRef<'_>) -> Result<(), NoMemory>
+    ensures { OnOk result (values.new ≡ with_value (value_of_ref value.entry) values.old) }
+{
+    if !is_null(value) {
+        values.insert(value.to_value(alloc)?)?;
+    }
+    Ok(())
+}
+
+// The value of a pair: what is counted is one fixed value.
+fn unless_counted(alloc: Global, op: Op, value: ValueRef<'_>) -> Result<Value, NoMemory>
+    ensures { IfOk result (λ made. made ≡ unless_counted op (value_of_ref value.entry)) }
+{
+    match op {
+        Op::Count => Ok(Value::Null),
+        _ => value.to_value(alloc),
+    }
+}
+
+pub(crate) fn is_null(value: ValueRef<'_>) -> bool
+    ensures { result ≡ is_null (value_of_ref value.entry) }
+{
+    match value {
+        ValueRef::Null => true,
+        _ => false,
+    }
+}
+
+// Whether the first value is the lesser one, null being neither.
+pub(crate) fn is_lesser(a: ValueRef<'_>, b: ValueRef<'_>) -> bool
+    ensures { result ≡ is_lt (null_last_cmp (value_of_ref a.entry) (value_of_ref b.entry)) }
+{
+    if is_null(a) {
+        false
+    } else {
+        is_null(b) || a.cmp(b) == Ordering::Less
+    }
+}
+
+// Whether the first value is the greater one: null comes first.
+pub(crate) fn is_greater(a: ValueRef<'_>, b: ValueRef<'_>) -> bool
+    ensures { result ≡ is_gt (value_cmp (value_of_ref a.entry) (value_of_ref b.entry)) }
+{
+    a.cmp(b) == Ordering::Greater
+}
