@@ -1,0 +1,4 @@
+pub mod Values
+pub mod FieldValues
+pub mod FieldFindings
+pub mod Fields
