@@ -2,7 +2,7 @@
 -- (Looker, LookML reference: refinements, extends, extension, final; lookd)
 use Rattle.std.specs.Prelude.{ℕ, zero, suc, Bool, true, false, not, ◌&&◌, ◌||◌, nat_lt, if◌then◌else◌, List, [], ◌∷◌, ◌++◌, map, length, find, Option, Some, None, codes}
 use Rattle.std.specs.List.{filter, flat_map, list_any}
-use Rattle.std.specs.Option.{option_and_then}
+use Rattle.std.specs.Option.{is_none, option_and_then, unwrap_or}
 use Rattle.std.specs.Cmp.Lexicographic.{slice_cmp}
 use Rattle.std.specs.Ordering.{nat_cmp}
 use Rattle.std.specs.declared.cmp.Ordering.{Ordering}
@@ -22,14 +22,9 @@ use Rattle.lk_merge.specs.Overlay.{merged}
 
 -- ---- one declaration
 
--- the bases that a value of `extends` lists; a word stands for the list of it (lookd)
-abbrev pub bases_in : Option (List (List ℕ)) → Option (List ℕ) → List (List ℕ)
-bases_in (Some names) word = names
-bases_in None (Some name) = name ∷ []
-bases_in None None = []
-
+-- the bases that a value of `extends` lists: a list alone has some
 abbrev pub listed_bases : Item → List (List ℕ)
-listed_bases item = bases_in (words item.value) (scalar item.value)
+listed_bases item = unwrap_or (words item.value) []
 
 -- views and explores extend others; a datagroup has no `extends`, `extension` or `final` (lookd)
 abbrev pub may_extend : Kind → Bool
@@ -115,13 +110,9 @@ is_final all k name = may_extend k && is_text (codes "yes") (last_text (codes "f
 
 -- ---- what is wrong with an `extends`, which the object keeps so that it can be told
 
--- a value that is neither a list of words nor a word
-abbrev pub lists_nothing : Option (List (List ℕ)) → Option (List ℕ) → Bool
-lists_nothing None None = true
-lists_nothing names word = false
-
+-- a value that is no list of words
 abbrev pub is_wrong : Item → Bool
-is_wrong item = lists_nothing (words item.value) (scalar item.value)
+is_wrong item = is_none (words item.value)
 
 -- the parameters, where there are several
 abbrev pub if_several : List Item → List Item

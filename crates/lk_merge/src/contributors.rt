@@ -4,7 +4,7 @@ ghost use Rattle.lk_params.specs.Parameters.{is_named, items_of};
 ghost use Rattle.lk_merge.specs.Objects.{may_extend, lists_bases, listed_bases, extends_in, extends_of, kept, handed_on, declares, refines_it, is_declared, declaration_of, own, bases_of, handed_within, contributors};
 
 use crate::declaration::{Declaration, Kind};
-use lk_params::{copy_item, firsts, joined, parameters_of, scalar, words};
+use lk_params::{copy_item, firsts, joined, parameters_of, words};
 use lk_read::Item;
 use lk_val::{Items, NoMemory, Text};
 use std::alloc::Global;
@@ -123,13 +123,7 @@ fn listed_bases(alloc: Global, item: &Item) -> Result<Items<Text>, NoMemory>
 {
     match words(alloc, &item.value)? {
         Some(names) => Ok(names),
-        None => {
-            let mut bases = Items::new(alloc);
-            if let Some(name) = scalar(&item.value) {
-                bases.push(name.copy(alloc)?)?;
-            }
-            Ok(bases)
-        }
+        None => Ok(Items::new(alloc)),
     }
 }
 

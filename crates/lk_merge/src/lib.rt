@@ -15,7 +15,7 @@ mod strays;
 mod whole;
 
 pub use declaration::{Declaration, Kind};
-pub use lk_include::{Project, ProjectFault};
+pub use lk_include::{Project, ProjectFault, gather};
 pub use project::{Merged, Object};
 pub use slot::Slot;
 pub use whole::merge;

@@ -2,7 +2,7 @@ ghost use Rattle.std.specs.Prelude.{◌≡◌, ◌∷◌, [], IfOk, map, find, o
 ghost use Rattle.std.specs.List.{flat_map, filter};
 ghost use Rattle.std.specs.Option.{option_or};
 ghost use Rattle.lk_params.specs.Parameters.{items_of, last_named};
-ghost use Rattle.lk_merge.specs.Objects.{may_extend, lists_bases, extends_in, last_text, option_list, is_wrong, if_several, is_required, is_final, is_text, lists_nothing, wrong_extends, object_with, objects, declaration_of, declared_names};
+ghost use Rattle.lk_merge.specs.Objects.{may_extend, lists_bases, extends_in, last_text, option_list, is_wrong, if_several, is_required, is_final, is_text, wrong_extends, object_with, objects, declaration_of, declared_names};
 ghost use Rattle.lk_params.specs.Picking.{last_given};
 
 use crate::contributors::{contributors, declaration_of, lists_bases, may_extend, own};
@@ -187,9 +187,6 @@ fn find_wrong(alloc: Global, items: &[Item]) -> Result<Option<&Item>, NoMemory>
 fn is_wrong(alloc: Global, item: &Item) -> Result<bool, NoMemory>
     ensures { IfOk result (λ wrong. wrong ≡ is_wrong item.now) }
 {
-    if scalar(&item.value).is_some() {
-        return Ok(false);
-    }
     Ok(words(alloc, &item.value)?.is_none())
 }
 

@@ -19,17 +19,11 @@ pub fn merge(alloc: Global, project: &Project) -> Result<Merged, ModelFault>
     ensures fault { IsTested result (fault_of project.now) }
     ensures ok { IfOk result (λ merged. merged ≡ merged_of project.now) }
 {
-    let Ok(all) = declarations(alloc, project.trees.as_slice()) else {
-        return Err(ModelFault::NoMemory);
-    };
-    match merge_fault(alloc, all.as_slice()) {
-        Err(_) => Err(ModelFault::NoMemory),
-        Ok(Some(line)) => Err(ModelFault::Fault(line)),
-        Ok(None) => match merged_of(alloc, project, all.as_slice()) {
-            Ok(merged) => Ok(merged),
-            Err(_) => Err(ModelFault::NoMemory),
-        },
+    let all = declarations(alloc, project.trees.as_slice())?;
+    if let Some(line) = merge_fault(alloc, all.as_slice())? {
+        return Err(ModelFault::Fault(line));
     }
+    Ok(merged_of(alloc, project, all.as_slice())?)
 }
 
 fn merge_fault(alloc: Global, all: &[Declaration]) -> Result<Option<FaultLine>, NoMemory>
