@@ -1,0 +1,139 @@
+#!/bin/sh
+# Times an accumulator of a count, an average and a sum over keys on 1,000,000 rows in 1, 1,000 and 100,000 groups, and
+# plain Rust that does the same with ordered maps of groups and of keys. With each line stands the most memory that its
+# process took. A measurement, not a test: it builds a program in a folder of its own, which proves it first.
+crates='lk_val lk_postfix lk_types lk_semantics lk_agg'
+uses='lk_val lk_types lk_agg'
+. "$(dirname "$0")/workspace.sh"
+cat >"$work/crates/timing/src/main.rt" <<'END'
+//! Times an accumulator on rows in so many groups, the number that the standard input says.
+#![tactic(auto)]
+
+use lk_agg::{Acc, AccShape, AggFault, KeyRef, Op};
+use lk_val::{Items, NoMemory, Num, ValueRef};
+use std::alloc::Global;
+use std::io;
+use std::time::Instant;
+
+const ROWS: u32 = 1_000_000;
+
+fn accumulator(alloc: Global) -> Result<Acc, NoMemory> {
+    let mut ops = Items::new(alloc);
+    ops.push(Op::Count)?;
+    ops.push(Op::Average)?;
+    ops.push(Op::Sum)?;
+    Acc::new(alloc, AccShape { dims: 1, ops })
+}
+
+fn number(count: u32) -> ValueRef<'static> {
+    ValueRef::Num(Num(i64::from(count) * 10_000))
+}
+
+// The group of a key, scattered over so many.
+fn group_of(key: u32, groups: u32) -> u32 {
+    let place = key.checked_rem(groups).unwrap_or(0);
+    place.wrapping_mul(7_919).checked_rem(groups).unwrap_or(0)
+}
+
+// Two rows have each key, and the same value at it.
+fn add_row(acc: &mut Acc, groups: u32, row: u32) -> Result<(), NoMemory> {
+    let key = row % (ROWS / 2);
+    let group = [number(group_of(key, groups))];
+    let cells = [
+        KeyRef { key: None, value: ValueRef::Null, counts: true },
+        KeyRef { key: None, value: number(row % 1_000), counts: true },
+        KeyRef { key: Some(number(key)), value: number(key % 1_000), counts: true },
+    ];
+    acc.add_refs(&group, &cells, u64::from(row))
+}
+
+fn add_rows(acc: &mut Acc, groups: u32) -> Result<(), NoMemory> {
+    for row in 0..ROWS {
+        add_row(acc, groups, row)?;
+    }
+    Ok(())
+}
+
+fn groups_of(alloc: Global, groups: u32) -> Result<usize, AggFault> {
+    let mut acc = accumulator(alloc)?;
+    add_rows(&mut acc, groups)?;
+    Ok(acc.finish()?.len())
+}
+
+fn main(rt: HostRuntime) -> io::Result<()> {
+    for line in rt.lines(rt.alloc()) {
+        let groups = line?.parse::<u32>().unwrap_or(1).max(1);
+        let begun = Instant::now(&rt)?;
+        let found = groups_of(rt.alloc(), groups);
+        let took = begun.elapsed(&rt)?.as_millis();
+        match found {
+            Ok(count) => println!(&rt; "lk_agg: {count} groups, {took} ms")?,
+            Err(_) => println!(&rt; "lk_agg: no answer")?,
+        }
+    }
+    Ok(())
+}
+END
+cat >"$work/plain.rs" <<'END'
+// The same in plain Rust.
+use std::collections::BTreeMap;
+use std::time::Instant;
+
+const ROWS: u32 = 1_000_000;
+
+#[derive(Clone, Copy, PartialEq, Eq, PartialOrd, Ord)]
+enum Value {
+    #[allow(dead_code)]
+    Null,
+    Num(i64),
+}
+
+fn number(count: u32) -> Value {
+    Value::Num(i64::from(count) * 10_000)
+}
+
+#[derive(Default)]
+struct Group {
+    count: u64,
+    sum: i128,
+    values: u64,
+    keys: BTreeMap<i64, Value>,
+    conflict: bool,
+}
+
+fn main() {
+    let mut line = String::new();
+    std::io::stdin().read_line(&mut line).unwrap();
+    let groups: u32 = line.trim().parse().unwrap();
+    let begun = Instant::now();
+    let mut all: BTreeMap<Vec<Value>, Group> = BTreeMap::new();
+    for row in 0..ROWS {
+        let key = row % (ROWS / 2);
+        let name = vec![number((key % groups).wrapping_mul(7_919) % groups)];
+        let group = all.entry(name).or_default();
+        group.count += 1;
+        if let Value::Num(n) = number(row % 1_000) {
+            group.sum += i128::from(n);
+            group.values += 1;
+        }
+        let value = number(key % 1_000);
+        if *group.keys.entry(i64::from(key) * 10_000).or_insert(value) != value {
+            group.conflict = true;
+        }
+    }
+    let mut total = 0i128;
+    for group in all.values() {
+        total += group.sum / i128::from(group.values.max(1)) + i128::from(group.count);
+        total += group.keys.values().map(|v| if let Value::Num(n) = v { i128::from(*n) } else { 0 }).sum::<i128>();
+        assert!(!group.conflict);
+    }
+    println!("plain Rust: {} groups, {} ms, {total}", all.len(), begun.elapsed().as_millis());
+}
+END
+(cd "$work" && rustc -O -o plain plain.rs) || exit 1
+(cd "$work/crates/timing" && touch stdin && rt run) >"$work/build.log" 2>&1 || { tail -n 40 "$work/build.log"; exit 1; }
+for groups in 1 1000 100000; do
+    for program in "$work/crates/timing/out/timing" "$work/plain"; do
+        echo "$groups" | /usr/bin/time -f '  at most %M KB of memory' "$program"
+    done
+done
