@@ -3,3 +3,4 @@ pub mod HandedLaws
 pub mod NameLaws
 pub mod RankLaws
 pub mod Steps
+pub mod CircleLaws

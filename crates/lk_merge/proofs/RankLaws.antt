@@ -14,34 +14,34 @@ use Rattle.lk_merge.specs.Objects.{bases_of, declared_names, declaration_of}
 use Rattle.lk_merge.specs.MergeFaults.{reaches, reached, is_on_cycle, cycle_line, extends_itself}
 use Rattle.lk_merge.specs.Ranks.{rank_in, is_below, descends, do_descend}
 
-split_and : (a b : Bool) → (a && b) ≡ true → (a ≡ true) × (b ≡ true)
+pub split_and : (a b : Bool) → (a && b) ≡ true → (a ≡ true) × (b ≡ true)
 split_and true b h = (refl, h)
 split_and false b h = absurd (false≢true h)
 
-split_or : (a b : Bool) → (a || b) ≡ true → (a ≡ true) ⊎ (b ≡ true)
+pub split_or : (a b : Bool) → (a || b) ≡ true → (a ≡ true) ⊎ (b ≡ true)
 split_or true b h = inl refl
 split_or false b h = inr h
 
-or_later : (a b : Bool) → b ≡ true → (a || b) ≡ true
+pub or_later : (a b : Bool) → b ≡ true → (a || b) ≡ true
 or_later true b h = refl
 or_later false b h = h
 
+pub same_itself : (x : List ℕ) → is_same_text x x ≡ true
+same_itself [] = refl
+same_itself (c ∷ cs) = grind (arith, nat_tests, same_itself cs)
+
 -- a test of some text passes one that is there
-some_of : (test : List ℕ → Bool) (texts : List (List ℕ)) → list_any test texts ≡ true
+pub some_of : (test : List ℕ → Bool) (texts : List (List ℕ)) → list_any test texts ≡ true
     → (x : List ℕ) × (is_in is_same_text x texts ≡ true) × (test x ≡ true)
 some_of test [] h = absurd (false≢true h)
 some_of test (y ∷ ys) h = ⊎_elim
-    (λ now. (y, ap (λ b. b || is_in is_same_text y ys) (itself y), now))
+    (λ now. (y, ap (λ b. b || is_in is_same_text y ys) (same_itself y), now))
     (λ later. let one = some_of test ys later in
     (one.0, or_later (is_same_text one.0 y) (is_in is_same_text one.0 ys) one.1, one.2))
     (split_or (test y) (list_any test ys) h)
-  where
-    itself : (x : List ℕ) → is_same_text x x ≡ true
-    itself [] = refl
-    itself (c ∷ cs) = grind (arith, nat_tests, itself cs)
 
 -- a test of all texts passes each that is there
-all_of : (test : List ℕ → Bool) (texts : List (List ℕ)) → list_all test texts ≡ true
+pub all_of : (test : List ℕ → Bool) (texts : List (List ℕ)) → list_all test texts ≡ true
     → (x : List ℕ) → is_in is_same_text x texts ≡ true → test x ≡ true
 all_of test [] h x there = absurd (false≢true there)
 all_of test (y ∷ ys) h x there =
@@ -55,7 +55,7 @@ below_both (Some a) (Some b) None h k = absurd (false≢true k)
 below_both (Some a) None c h k = absurd (false≢true h)
 below_both None b c h k = absurd (false≢true h)
 
-never_below : (a : Option ℕ) → is_below a a ≡ false
+pub never_below : (a : Option ℕ) → is_below a a ≡ false
 never_below (Some a) = grind (arith, nat_tests)
 never_below None = refl
 
@@ -64,12 +64,8 @@ none_found : (test : List ℕ → Bool) (texts : List (List ℕ)) → ((x : List
 none_found test [] h = refl
 none_found test (y ∷ ys) h = rw (h y (first_there y ys)) (none_found test ys (λ x there. h x (or_later (is_same_text x y) (is_in is_same_text x ys) there)))
   where
-    itself : (x : List ℕ) → is_same_text x x ≡ true
-    itself [] = refl
-    itself (c ∷ cs) = grind (arith, nat_tests, itself cs)
-
     first_there : (x : List ℕ) (xs : List (List ℕ)) → is_in is_same_text x (x ∷ xs) ≡ true
-    first_there x xs = ap (λ b. b || is_in is_same_text x xs) (itself x)
+    first_there x xs = ap (λ b. b || is_in is_same_text x xs) (same_itself x)
 
 module _ (all : List Declaration) (k : Kind) (ranks : List ℕ) where
   abbrev names : List (List ℕ)

@@ -5,6 +5,7 @@ ghost use Rattle.lk_val.specs.Least.{is_in, grown, grown_times};
 ghost use Rattle.lk_merge.specs.Objects.{bases_of, declaration_of, declared_names};
 ghost use Rattle.lk_merge.specs.MergeFaults.{reaches, reached, is_on_cycle, cycle_line, extends_itself};
 
+use crate::circles::shown_cycle;
 use crate::contributors::{bases_of, declaration_of};
 use crate::declaration::{Declaration, Kind};
 use crate::faults::fault_at;
@@ -27,7 +28,7 @@ pub fn find_cycle(
     if do_descend(alloc, all, kind, names.as_slice(), ranks.as_slice())? {
         return Ok(None);
     }
-    match name_on_cycle(alloc, all, kind, names.as_slice())? {
+    match least_on_cycle(alloc, all, kind, names.as_slice())? {
         None => Ok(None),
         Some(name) => match declaration_of(all, kind, name) {
             None => Ok(None),
@@ -36,6 +37,22 @@ pub fn find_cycle(
     }
 }
 
+fn least_on_cycle<'a>(
+    alloc: Global,
+    all: &[Declaration],
+    kind: Kind,
+    names: &'a [Text],
+) -> Result<Option<&'a Text>, NoMemory>
+    requires { names.now ≡ declared_names all.now kind }
+    ensures { IfOk result (λ name. option_map (λ n. n.now) name ≡ find (is_on_cycle all.now kind) names.now) }
+{
+    if let Some(name) = shown_cycle(alloc, all, kind, names)? {
+        return Ok(Some(name));
+    }
+    name_on_cycle(alloc, all, kind, names)
+}
+
+// The same by the sets themselves, which takes long.
 fn name_on_cycle<'a>(
     alloc: Global,
     all: &[Declaration],

@@ -1,6 +1,7 @@
 //! LookML files as one project: the effective views, explores and datagroups, or the first fault of merging.
 #![tactic(auto)]
 
+mod circles;
 mod contributors;
 mod cycles;
 mod declaration;
@@ -8,6 +9,7 @@ mod faults;
 mod merging;
 mod names;
 mod objects;
+mod paths;
 mod project;
 mod ranks;
 mod slot;

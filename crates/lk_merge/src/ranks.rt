@@ -30,7 +30,8 @@ pub fn do_descend(
     Ok(true)
 }
 
-fn descends(names: &[Text], ranks: &[usize], name: &Text, bases: &[Text]) -> bool
+/// Whether the name's number is above those of its bases.
+pub fn descends(names: &[Text], ranks: &[usize], name: &Text, bases: &[Text]) -> bool
     ensures { result ≡ descends names.now ranks.now name.now bases.now }
 {
     let rank = rank_in(names, ranks, name);
@@ -54,7 +55,8 @@ fn is_below(rank: Option<usize>, other: Option<usize>) -> bool
     }
 }
 
-fn rank_in(names: &[Text], ranks: &[usize], name: &Text) -> Option<usize>
+/// The number of a name.
+pub fn rank_in(names: &[Text], ranks: &[usize], name: &Text) -> Option<usize>
     ensures { result ≡ rank_in names.now ranks.now name.now }
 {
     let mut left = ranks;
@@ -116,8 +118,8 @@ fn rank_above(ranks: &[usize], bases: &[usize]) -> usize {
     above
 }
 
-// The places of each name's bases.
-fn base_places(
+/// The places of each name's bases.
+pub fn base_places(
     alloc: Global,
     all: &[Declaration],
     kind: Kind,
