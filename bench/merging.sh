@@ -1,7 +1,8 @@
 #!/bin/sh
 # Times `gather` and `merge` on projects of several shapes: 500 views of 40 fields over 1,000 files, each refined once and a
-# fifth extending another; a chain of 500 extensions; a diamond of ten levels. With each line stands the most memory that
-# its process took. A measurement, not a test: it builds a program in a folder of its own, which proves it first.
+# fifth extending another; the same with a view that extends itself; a chain of 500 extensions; a diamond of ten levels.
+# With each line stands the most memory that its process took. A measurement, not a test: it builds a program in a folder
+# of its own, which proves it first.
 crates='lk_val lk_utf8 lk_read lk_io lk_params lk_include lk_merge'
 uses='lk_val lk_io lk_include lk_merge'
 . "$(dirname "$0")/workspace.sh"
@@ -52,6 +53,12 @@ fn refined(alloc: Global, count: usize, files: &mut Items<File>) -> Result<(), N
     files.push(file(alloc, "m.model.lkml", model)?)
 }
 
+// The same with a view that extends itself.
+fn cycle(alloc: Global, count: usize, files: &mut Items<File>) -> Result<(), NoMemory> {
+    refined(alloc, count, files)?;
+    files.push(file(alloc, "views/z.view.lkml", String::from_str(alloc, "view: z { extends: [z] }\n")?)?)
+}
+
 // Views of one field, each of which extends the one before it.
 fn chain(alloc: Global, count: usize, files: &mut Items<File>) -> Result<(), NoMemory> {
     let mut model = String::from_str(alloc, "view: v0 { dimension: f0 { type: number } }\n")?;
@@ -76,6 +83,7 @@ fn folder(alloc: Global, shape: &str, size: usize) -> Result<MemFiles, NoMemory>
     let mut files = Items::new(alloc);
     match shape {
         "refined" => refined(alloc, size, &mut files)?,
+        "cycle" => cycle(alloc, size, &mut files)?,
         "chain" => chain(alloc, size, &mut files)?,
         _ => diamond(alloc, size, &mut files)?,
     }
@@ -92,7 +100,10 @@ fn tell_merged(rt: &HostRuntime, line: &str, project: &Project, gathered: u128) 
             let took = begun.elapsed(rt)?.as_millis();
             println!(rt; "{line}: {} trees gathered in {gathered} ms, {} views merged in {took} ms", project.trees.len(), merged.views.len())
         }
-        Err(ModelFault::Fault(fault)) => println!(rt; "{line}: {} at {}", fault.code.as_str(), fault.name.as_str()),
+        Err(ModelFault::Fault(fault)) => {
+            let took = begun.elapsed(rt)?.as_millis();
+            println!(rt; "{line}: {} {} in {took} ms", fault.code.as_str(), fault.name.as_str())
+        }
         Err(ModelFault::NoMemory) => println!(rt; "{line}: no memory"),
     }
 }
@@ -116,6 +127,6 @@ fn main(rt: HostRuntime) -> io::Result<()> {
 }
 END
 (cd "$work/crates/timing" && touch stdin && rt run) >"$work/build.log" 2>&1 || { tail -n 40 "$work/build.log"; exit 1; }
-for line in 'refined 500' 'chain 500' 'diamond 10'; do
+for line in 'refined 500' 'cycle 500' 'chain 500' 'diamond 10'; do
     echo "$line" | /usr/bin/time -f '  at most %M KB of memory' "$work/crates/timing/out/timing"
 done
