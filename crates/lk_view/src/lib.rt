@@ -2,6 +2,7 @@
 #![tactic(auto)]
 
 mod code_findings;
+mod dimension;
 mod field_findings;
 mod field_type;
 mod frames;
@@ -12,6 +13,7 @@ mod tiers;
 mod values;
 
 pub use code_findings::find_in_code;
+pub use dimension::find_in_dimension;
 pub use field_findings::{add_wrong, is_missing, needs_key, needs_sql};
 pub use field_type::{dimension_type, measure_type};
 pub use frames::{frame_named, frames_named, frames_of};
