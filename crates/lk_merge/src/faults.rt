@@ -81,6 +81,7 @@ fn unknown_base(
     Ok(None)
 }
 
+/// The line of a fault at a declaration, with another name where there is one.
 pub fn fault_at(
     alloc: Global,
     code: &str,

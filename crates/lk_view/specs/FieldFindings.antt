@@ -107,10 +107,10 @@ group_findings object items =
     (is_wrong_at (λ value. not (lists_frames (words value))) (codes "timeframes") items)
     ++ wrong order.Field object (codes "sql") (codes "sql") (is_missing (codes "sql") items)
 
+-- every measure but a count has to have `sql`, one of an unknown type too
 abbrev pub needs_sql : Option Op → Bool
-needs_sql None = false
 needs_sql (Some op.Count) = false
-needs_sql (Some o) = true
+needs_sql o = true
 
 abbrev pub needs_key : Option Op → Bool
 needs_key (Some op.SumDistinct) = true

@@ -39,13 +39,13 @@ pub fn is_missing(name: &str, items: &[Item]) -> bool
     last_named(name, items).is_none()
 }
 
-/// Whether a measure of this type has to have `sql`.
+/// Whether a measure of this type has to have `sql`: each but a count, one of an unknown type too.
 pub fn needs_sql(op: Option<Op>) -> bool
     ensures { result ≡ needs_sql op }
 {
     match op {
-        None | Some(Op::Count) => false,
-        Some(_) => true,
+        Some(Op::Count) => false,
+        _ => true,
     }
 }
 
