@@ -43,7 +43,9 @@ pub fn find_unknown(
     Ok(())
 }
 
-fn find_in_item(
+/// The faults of one parameter of a block by itself, given those before it: what `find_unknown` finds there. For blocks in
+/// which what the values say has to be found in the same order.
+pub fn find_in_item(
     alloc: Global,
     order: Order,
     owner: Owner,

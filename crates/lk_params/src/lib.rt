@@ -13,7 +13,7 @@ mod values;
 
 pub use copies::{copy_item, copy_items, copy_title, copy_tree, copy_value};
 pub use finding::{Finding, Findings, named_line};
-pub use known::{add_if, find_unknown, holds_liquid};
+pub use known::{add_if, find_in_item, find_unknown, holds_liquid};
 pub use number::{Number, Order};
 pub use overlay::{firsts, joined, overlaid};
 pub use owner::{Owner, has_effect, is_display};
