@@ -2,3 +2,4 @@ pub mod Operands
 pub mod Patterns
 pub mod NodeValues
 pub mod NodeKinds
+pub mod CellValues

@@ -1,6 +1,5 @@
-ghost use Rattle.std.specs.Prelude.{◌≡◌, [], true, false, slice_index_or, IfOk, length, map};
+ghost use Rattle.std.specs.Prelude.{◌≡◌, [], true, false, IfOk, length, map};
 ghost use Rattle.std.specs.List.{list_all};
-ghost use Rattle.lk_val.specs.declared.value.Value.TheVariants as value;
 ghost use Rattle.lk_postfix.specs.Postfix.{after_nodes, is_whole};
 ghost use Rattle.lk_types.specs.Dates.{are_literals_dated, is_dated, is_row_dated};
 ghost use Rattle.lk_types.specs.Expressions.{column_of, value_of};
@@ -10,6 +9,7 @@ ghost use Rattle.lk_eval.specs.NodeValues.{is_borrowed, is_node_dated, operand, 
 ghost use Rattle.lk_eval.specs.Operands.{operand_value};
 
 use crate::arithmetic::{apply, negated};
+use crate::cells::HasCells;
 use crate::choices::{first_chosen, first_known, null_if};
 use crate::conditions::truth_made;
 use crate::framed::timeframe_of;
@@ -29,6 +29,15 @@ pub fn eval(alloc: Global, e: &Expr, row: &Joined) -> Result<Value, NoMemory>
     requires literals { are_literals_dated e.now ≡ true }
     ensures { IfOk result (λ v. v ≡ value_of e.now row.now) }
 {
+    eval_over(alloc, e, row)
+}
+
+/// The value of an expression on a joined row whose cells are looked at where they stand, as `eval` gives it. (lookd)
+pub fn eval_over<R: HasCells>(alloc: Global, e: &Expr, row: &R) -> Result<Value, NoMemory>
+    requires row { is_row_dated (R.row_of row.now) ≡ true }
+    requires literals { are_literals_dated e.now ≡ true }
+    ensures { IfOk result (λ v. v ≡ value_of e.now (R.row_of row.now)) }
+{
     let stack = values(alloc, e.nodes(), row)?;
     lowest(alloc, stack.as_slice())
 }
@@ -44,15 +53,15 @@ fn lowest(alloc: Global, stack: &[Operand<'_>]) -> Result<Value, NoMemory>
 }
 
 // The values that the nodes leave on the stack.
-fn values<'a>(
+fn values<'a, R: HasCells>(
     alloc: Global,
     nodes: &'a [Node],
-    row: &'a Joined,
+    row: &'a R,
 ) -> Result<Stack<Operand<'a>>, NoMemory>
-    requires row { is_row_dated row.now ≡ true }
+    requires row { is_row_dated (R.row_of row.now) ≡ true }
     requires literals { list_all is_node_dated nodes.now ≡ true }
     requires whole { is_whole arity nodes.now ≡ true }
-    ensures { IfOk result (λ stack. map operand_value stack ≡ after_nodes arity (value_made row.now) [] nodes.now) }
+    ensures { IfOk result (λ stack. map operand_value stack ≡ after_nodes arity (value_made (R.row_of row.now)) [] nodes.now) }
 {
     let mut stack = Stack::new(alloc);
     for node in nodes {
@@ -64,15 +73,15 @@ fn values<'a>(
 }
 
 // What a node makes of its operands.
-fn value_made<'a>(
+fn value_made<'a, R: HasCells>(
     alloc: Global,
     node: &'a Node,
     operands: &[Operand<'a>],
-    row: &'a Joined,
+    row: &'a R,
 ) -> Result<Operand<'a>, NoMemory>
     requires count { length operands.now ≡ arity node.now }
     requires dated { list_all is_dated (map operand_value operands.now) ≡ true }
-    ensures { IfOk result (λ made. operand_value made ≡ value_made row.now node.now (map operand_value operands.now)) }
+    ensures { IfOk result (λ made. operand_value made ≡ value_made (R.row_of row.now) node.now (map operand_value operands.now)) }
 {
     match node {
         Node::Column(part, column) => Ok(cell_of(row, *part, *column)),
@@ -102,19 +111,10 @@ fn computed(alloc: Global, node: &Node, operands: &[Operand<'_>]) -> Result<Valu
 }
 
 // The value in a column of a part: null where the part is null or has not entered.
-fn cell_of(row: &Joined, part: u32, column: u32) -> Operand<'_>
-    ensures { operand_value result ≡ column_of row.now part column }
+fn cell_of<R: HasCells>(row: &R, part: u32, column: u32) -> Operand<'_>
+    ensures { operand_value result ≡ column_of (R.row_of row.now) part column }
 {
-    match row.parts.as_slice().get(part as usize) {
-        Some(Some(cells)) => cell_at(cells.as_slice(), column),
-        _ => Operand::Made(Value::Null),
-    }
-}
-
-fn cell_at(cells: &[Value], column: u32) -> Operand<'_>
-    ensures { operand_value result ≡ slice_index_or cells.now column value.Null }
-{
-    match cells.get(column as usize) {
+    match row.cell(part, column) {
         Some(v) => Operand::Held(v),
         None => Operand::Made(Value::Null),
     }

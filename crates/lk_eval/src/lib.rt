@@ -2,6 +2,7 @@
 #![tactic(auto)]
 
 mod arithmetic;
+mod cells;
 mod choices;
 mod comparison;
 mod conditions;
@@ -15,8 +16,9 @@ mod operand;
 mod texts;
 mod truth;
 
+pub use cells::HasCells;
 pub use dated::{are_literals_dated, is_row_dated};
-pub use evaluation::eval;
+pub use evaluation::{eval, eval_over};
 pub use kinds::{Clash, kind_of};
 pub use laws::values_have_their_kinds;
 pub use like::{each_pattern_has_a_text, read_pattern};

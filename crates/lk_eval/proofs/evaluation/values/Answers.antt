@@ -9,19 +9,19 @@ use Rattle.lk_eval.proofs.ValueSteps.{made-dated, depth_at, tops, puts, tops-dat
 use Rattle.lk_eval.proofs.evaluation.values.Goals as goal
 
 pub value_made-requires-clause-dated : goal.value_made-requires-clause-dated
-value_made-requires-clause-dated c =
+value_made-requires-clause-dated g c =
     ap (λ s. list_all is_dated (map operand_value s)) c.operands.ensures
     ∙ tops-dated operand_value c.arity-count.result c.loop-node.stack c.loop-node.invariant.dated
 
 pub loop-node-preserved : goal.loop-node-preserved
-loop-node-preserved c =
+loop-node-preserved g c =
     let k = c.arity-count.result in
     let n = c.node-item.result in
     let stack = c.loop-node.stack in
     let made = c.in_ok-made.made in
     let i = c.loop-node.node-index in
     let ns = c.args.nodes.now in
-    let row = c.args.row.now in
+    let row = g.R.HasCells.row_of c.args.row.now in
     let here = depth_at _ _ ns i n (omega arith) c.node-item.is c.loop-node.invariant.left in
     let low = map operand_value stack in
     let is : operand_value made ≡ value_made row n (operands k low) =

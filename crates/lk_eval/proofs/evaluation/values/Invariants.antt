@@ -8,8 +8,8 @@ use Rattle.lk_eval.specs.Operands.{operand_value}
 use Rattle.lk_eval.proofs.evaluation.values.Given as goal
 
 abbrev pub invariant-loop-node : goal.invariant-loop-node
-invariant-loop-node l = record {
-  made : map operand_value l.stack ≡ after_nodes arity (value_made l.row) [] (take l.node-index l.nodes);
+invariant-loop-node g l = record {
+  made : map operand_value l.stack ≡ after_nodes arity (value_made (g.R.HasCells.row_of l.row)) [] (take l.node-index l.nodes);
   dated : list_all is_dated (map operand_value l.stack) ≡ true;
   left : depth_after arity (length l.stack) (drop l.node-index l.nodes) ≡ Some 1;
 }
