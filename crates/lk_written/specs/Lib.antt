@@ -1,0 +1,4 @@
+pub mod Values
+pub mod ValueFindings
+pub mod FilterFindings
+pub mod CodeFindings

@@ -1,0 +1,14 @@
+//! What the texts of LookML parameters say: their values, codes and filters, and the faults of these.
+#![tactic(auto)]
+
+mod code_findings;
+mod filter_findings;
+mod filters;
+mod value_findings;
+mod values;
+
+pub use code_findings::find_in_code;
+pub use filter_findings::find_in_filters;
+pub use filters::filters_at;
+pub use value_findings::{add_wrong, add_wrong_within};
+pub use values::{code_at, is_missing, is_no_truth, is_text, is_yes, text_at};
