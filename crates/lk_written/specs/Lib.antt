@@ -2,3 +2,10 @@ pub mod Values
 pub mod ValueFindings
 pub mod FilterFindings
 pub mod CodeFindings
+pub mod ReadFilters
+pub mod References
+pub mod Skeletons
+pub mod SkeletonNodes
+pub mod Calculations
+pub mod MeasureNodes
+pub mod Codes

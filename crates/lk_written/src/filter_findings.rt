@@ -11,12 +11,11 @@ ghost use Rattle.lk_written.specs.FilterFindings.{filters_findings, filters_wron
 use crate::filters::{filters_at, is_pair};
 use crate::value_findings::add_wrong_within;
 use crate::values::is_missing;
+use lk_filter::LONGEST_FILTER;
 use lk_params::{Findings, Number, Order, Owner, add_if, find_in_item, parameters_of, scalar};
 use lk_read::{Entry, Item, Node};
 use lk_val::{NoMemory, Text};
 use std::alloc::Global;
-
-const LONGEST_FILTER: u32 = 4096;
 
 /// The faults of a block's filters: another value than pairs or an older block with `field` and `value` (N14), other
 /// parameters in an older block (N1), and texts of over 4,096 bytes (N15). `object` is the object's name, and `at` its

@@ -1,0 +1,90 @@
+-- How an expression with numbers in place of its names is found: what each node of a tree adds to the list of nodes.
+use Rattle.std.specs.Prelude.{ℕ, ◌+◌, ◌-◌, ◌/◌, Bool, true, false, ◌&&◌, nat_eq, nat_lt, List, [], ◌∷◌, Option, Some, None}
+use Rattle.lk_val.specs.Numbers.{num_of}
+use Rattle.lk_val.specs.declared.value.Value.TheVariants as value
+use Rattle.lk_types.specs.declared.expr.Node.{Node}
+use Rattle.lk_types.specs.declared.expr.Node.TheVariants as node
+use Rattle.lk_types.specs.declared.expr.Arithmetic.TheVariants as arithmetic
+use Rattle.lk_eval.specs.Patterns.{pattern_of}
+use Rattle.lk_expr_token.specs.declared.functions.Function.{Function}
+use Rattle.lk_expr_token.specs.declared.functions.Function.TheVariants as function
+use Rattle.lk_expr_token.specs.Functions.{function_of}
+use Rattle.lk_expr_tree.specs.declared.raw.Joint.{Joint}
+use Rattle.lk_expr_tree.specs.declared.raw.Joint.TheVariants as joint
+use Rattle.lk_expr_tree.specs.declared.raw.RawNode.{RawNode}
+use Rattle.lk_expr_tree.specs.declared.raw.RawNode.TheVariants as raw
+use Rattle.lk_objects.specs.declared.code.Reference.{Reference}
+use Rattle.lk_objects.specs.declared.code.Reference.TheVariants as reference
+use Rattle.lk_written.specs.Skeletons.{number_value}
+
+-- the name that a node is
+abbrev pub node_references : RawNode → List Reference
+node_references (raw.Column name) = reference.Column name ∷ []
+node_references (raw.Name name place) = reference.Column name ∷ []
+node_references (raw.Field name) = reference.Own name ∷ []
+node_references (raw.FieldOf view name) = reference.Of view name ∷ []
+node_references n = []
+
+-- the function takes so many arguments
+abbrev pub takes_count : Option Function → ℕ → Bool
+takes_count None count = false
+takes_count (Some function.Coalesce) count = nat_lt 0 count
+takes_count (Some function.NullIf) count = nat_eq count 2
+takes_count (Some function.Lower) count = nat_eq count 1
+takes_count (Some function.Upper) count = nat_eq count 1
+
+-- so many are one pair or more
+abbrev pub are_pairs : ℕ → Bool
+are_pairs count = nat_lt 0 (count / 2) && nat_eq (count / 2 + count / 2) count
+
+-- the node has as many operands as one of its kind has; those of a tree that a text spells all have
+abbrev pub has_operands : RawNode → Bool
+has_operands (raw.Call name place count) = takes_count (function_of name) count
+has_operands (raw.Case count) = are_pairs count
+has_operands (raw.CaseElse count) = nat_lt 0 count && are_pairs (count - 1)
+has_operands (raw.In negated count) = nat_lt 1 count
+has_operands n = true
+
+-- a test, and NOT behind it where it is denied
+abbrev pub denied : Bool → Node → List Node
+denied true test = test ∷ node.Not ∷ []
+denied false test = test ∷ []
+
+abbrev pub joint_node : Joint → Node
+joint_node joint.Or = node.Or
+joint_node joint.And = node.And
+joint_node joint.Plus = node.Number arithmetic.Plus
+joint_node joint.Minus = node.Number arithmetic.Minus
+joint_node joint.Concat = node.Concat
+joint_node joint.Times = node.Number arithmetic.Times
+joint_node joint.Over = node.Number arithmetic.Over
+
+abbrev pub call_node : Option Function → ℕ → Node
+call_node None count = node.Coalesce count
+call_node (Some function.Coalesce) count = node.Coalesce count
+call_node (Some function.NullIf) count = node.NullIf
+call_node (Some function.Lower) count = node.Lower
+call_node (Some function.Upper) count = node.Upper
+
+-- what a node adds, where so many names stand before it
+abbrev pub skeleton_nodes : ℕ → RawNode → List Node
+skeleton_nodes n (raw.Number number) = node.Literal (number_value (num_of number)) ∷ []
+skeleton_nodes n (raw.Text text) = node.Literal (value.Text text) ∷ []
+skeleton_nodes n (raw.Truth b) = node.Literal (value.Truth b) ∷ []
+skeleton_nodes n raw.Null = node.Literal value.Null ∷ []
+skeleton_nodes n (raw.Name name place) = node.Column 0 n ∷ []
+skeleton_nodes n (raw.Column name) = node.Column 0 n ∷ []
+skeleton_nodes n (raw.Field name) = node.Column 0 n ∷ []
+skeleton_nodes n (raw.FieldOf view name) = node.Column 0 n ∷ []
+skeleton_nodes n raw.Group = []
+skeleton_nodes n (raw.Call name place count) = call_node (function_of name) count ∷ []
+skeleton_nodes n (raw.Case count) = node.Case count ∷ []
+skeleton_nodes n (raw.CaseElse count) = node.Case count ∷ []
+skeleton_nodes n raw.Negate = node.Negate ∷ []
+skeleton_nodes n (raw.Chain j) = joint_node j ∷ []
+skeleton_nodes n (raw.Compare c) = node.Compare c ∷ []
+skeleton_nodes n (raw.IsNull negated) = denied negated node.IsNull
+skeleton_nodes n (raw.In negated count) = denied negated (node.In count)
+skeleton_nodes n (raw.Between negated) = denied negated node.Between
+skeleton_nodes n (raw.Like negated pattern) = denied negated (node.Like (pattern_of pattern))
+skeleton_nodes n raw.Not = node.Not ∷ []
