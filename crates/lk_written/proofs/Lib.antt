@@ -1,0 +1,9 @@
+pub mod TokenLaws
+pub mod FormedLaws
+pub mod Numbered
+pub mod NameLaws
+pub mod SkeletonNodeLaws
+pub mod MeasureNodeLaws
+pub mod Passes
+pub mod SkeletonPasses
+pub mod MeasurePasses

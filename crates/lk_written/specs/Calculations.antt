@@ -1,6 +1,6 @@
 -- The expression of a measure of type number with numbers in place of its names: each name, counted from the left, is
 -- the measure of that number. (Looker, LookML reference: measure types, number; lookd)
-use Rattle.std.specs.Prelude.{ℕ, ◌+◌, List, [], ◌∷◌, ◌++◌, Option, Some, None, Result, Ok, Err}
+use Rattle.std.specs.Prelude.{ℕ, ◌+◌, List, [], ◌∷◌, ◌++◌, Option, Some, Result, Ok, Err}
 use Rattle.lk_val.specs.Numbers.{num_of}
 use Rattle.lk_val.specs.declared.num.Num.{Num}
 use Rattle.lk_val.specs.declared.num.NumFault.{NumFault}
@@ -41,21 +41,21 @@ called f args = nothing
 
 abbrev mutual
   -- the expression of a tree, whose first name has this number; brackets leave no trace
-  pub calculation_of : ℕ → Tree → Calculation
-  calculation_of n (Number text) = number_of (num_of text)
-  calculation_of n (Field name) = calculation.OfMeasure n
-  calculation_of n (FieldOf view name) = calculation.OfMeasure n
-  calculation_of n (Group a) = calculation_of n a
-  calculation_of n (Call name place args) = called (function_of name) (calculations n args)
-  calculation_of n (Negate a) = calculation.Negate (calculation_of n a)
-  calculation_of n (Chain j a b) = joined j (calculation_of n a) (calculation_of (n + count a) b)
-  calculation_of n a = nothing
+  pub measure_skeleton : ℕ → Tree → Calculation
+  measure_skeleton n (Number text) = number_of (num_of text)
+  measure_skeleton n (Field name) = calculation.OfMeasure n
+  measure_skeleton n (FieldOf view name) = calculation.OfMeasure n
+  measure_skeleton n (Group a) = measure_skeleton n a
+  measure_skeleton n (Call name place args) = called (function_of name) (measure_skeletons n args)
+  measure_skeleton n (Negate a) = calculation.Negate (measure_skeleton n a)
+  measure_skeleton n (Chain j a b) = joined j (measure_skeleton n a) (measure_skeleton (n + count a) b)
+  measure_skeleton n a = nothing
 
   -- the arguments, in order
-  pub calculations : ℕ → Args → List Calculation
-  calculations n (one a) = calculation_of n a ∷ []
-  calculations n (more args a) = calculations n args ++ calculation_of (n + count_in args) a ∷ []
+  pub measure_skeletons : ℕ → Args → List Calculation
+  measure_skeletons n (one a) = measure_skeleton n a ∷ []
+  measure_skeletons n (more args a) = measure_skeletons n args ++ measure_skeleton (n + count_in args) a ∷ []
 
 -- an expression as it is written: its names, and the tree over their numbers
 abbrev pub written_number_of : Tree → WrittenNumber
-written_number_of a = record { references = references_of a; expr = calculation_of 0 a }
+written_number_of a = record { references = references_of a; expr = measure_skeleton 0 a }

@@ -9,8 +9,6 @@ use Rattle.lk_expr_place.specs.ExprTexts.{IsOfGrammar, IsTreeText}
 use Rattle.lk_expr_place.specs.SyntaxPlaces.{IsSyntaxPlace}
 use Rattle.lk_objects.specs.declared.code.Code.{Code}
 use Rattle.lk_objects.specs.declared.code.Code.TheVariants as code
-use Rattle.lk_objects.specs.declared.code.Written.{Written}
-use Rattle.lk_objects.specs.declared.code.WrittenNumber.{WrittenNumber}
 use Rattle.lk_written.specs.Skeletons.{written_of}
 use Rattle.lk_written.specs.Calculations.{written_number_of}
 

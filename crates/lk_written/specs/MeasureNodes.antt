@@ -37,12 +37,12 @@ abbrev pub number_node : Result Num NumFault → NumNode
 number_node (Ok n) = node.Literal n
 number_node (Err e) = node.Coalesce 0
 
-abbrev pub call_node : Option Function → ℕ → List NumNode
-call_node None count = []
-call_node (Some function.Coalesce) count = node.Coalesce count ∷ []
-call_node (Some function.NullIf) count = node.NullIf ∷ []
-call_node (Some function.Lower) count = []
-call_node (Some function.Upper) count = []
+abbrev pub call_node : Option Function → ℕ → NumNode
+call_node None count = node.Coalesce count
+call_node (Some function.Coalesce) count = node.Coalesce count
+call_node (Some function.NullIf) count = node.NullIf
+call_node (Some function.Lower) count = node.Coalesce count
+call_node (Some function.Upper) count = node.Coalesce count
 
 abbrev pub joint_node : Option Arithmetic → List NumNode
 joint_node None = []
@@ -53,7 +53,7 @@ abbrev pub measure_nodes : ℕ → RawNode → List NumNode
 measure_nodes n (raw.Number number) = number_node (num_of number) ∷ []
 measure_nodes n (raw.Field name) = node.Measure n ∷ []
 measure_nodes n (raw.FieldOf view name) = node.Measure n ∷ []
-measure_nodes n (raw.Call name place count) = call_node (function_of name) count
+measure_nodes n (raw.Call name place count) = call_node (function_of name) count ∷ []
 measure_nodes n raw.Negate = node.Negate ∷ []
 measure_nodes n (raw.Chain j) = joint_node (joint_arithmetic j)
 measure_nodes n other = []

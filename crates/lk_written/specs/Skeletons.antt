@@ -1,6 +1,6 @@
 -- An expression with numbers in place of its names: each name, counted from the left, is the column of that number.
 -- (Looker, LookML reference: sql; lookd)
-use Rattle.std.specs.Prelude.{ℕ, ◌+◌, Bool, true, false, List, [], ◌∷◌, ◌++◌, Option, Some, None, Result, Ok, Err}
+use Rattle.std.specs.Prelude.{ℕ, ◌+◌, Bool, true, false, List, [], ◌∷◌, ◌++◌, Option, Some, Result, Ok, Err}
 use Rattle.lk_val.specs.Numbers.{num_of}
 use Rattle.lk_val.specs.declared.num.Num.{Num}
 use Rattle.lk_val.specs.declared.num.NumFault.{NumFault}

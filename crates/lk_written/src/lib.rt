@@ -2,12 +2,21 @@
 #![tactic(auto)]
 
 mod code_findings;
+mod codes;
+mod examples;
 mod filter_findings;
 mod filters;
+mod measure;
+mod measure_nodes;
+mod names;
+mod nodes;
+mod skeleton;
 mod value_findings;
 mod values;
 
 pub use code_findings::find_in_code;
+pub use codes::read_code;
+pub use examples::{measures_are_numbered, names_are_numbered};
 pub use filter_findings::find_in_filters;
 pub use filters::filters_at;
 pub use value_findings::{add_wrong, add_wrong_within};
