@@ -24,7 +24,8 @@ use Rattle.lk_expr_tree.specs.Grammar.{Tree, IsExprText, Number, print, print_ar
 use Rattle.lk_expr_tree.specs.RawNodes.{arity, made, operand, args_back, branches_back, args_among, branches_among, trees_of}
 use Rattle.lk_expr_tree.specs.Calls.{has_one, has_two, is_taken, place_unless, unknown_call, unknown_among, unknown_branch}
 use Rattle.lk_expr_tree.proofs.GatheredLaws.{last_of}
-use Rattle.lk_written.specs.SkeletonNodes.{takes_count, are_pairs, has_operands, is_named, is_formed}
+use Rattle.lk_written.specs.SkeletonNodes.{is_named}
+use Rattle.lk_written.proofs.NodeForms.{takes_count, are_pairs, has_operands, is_formed}
 use Rattle.lk_written.proofs.TokenLaws.{both_true, true_both, is_real, spelled_real}
 
 -- a tree of tokens that a text has, all of whose calls are known

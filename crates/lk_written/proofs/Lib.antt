@@ -1,3 +1,4 @@
+pub mod NodeForms
 pub mod TokenLaws
 pub mod FormedLaws
 pub mod Numbered
@@ -7,3 +8,6 @@ pub mod MeasureNodeLaws
 pub mod Passes
 pub mod SkeletonPasses
 pub mod MeasurePasses
+pub mod FilterLaws
+pub mod OneCode
+pub mod OneFilter

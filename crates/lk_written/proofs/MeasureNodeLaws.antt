@@ -26,8 +26,8 @@ use Rattle.lk_expr_tree.specs.NodeCalls.{is_measure_node}
 use Rattle.lk_expr_tree.specs.RawNodes.{arity, made, operand, args_among}
 use Rattle.lk_written.specs.References.{count}
 use Rattle.lk_written.specs.Calculations.{measure_skeleton, measure_skeletons, number_of, joined, called}
-use Rattle.lk_written.specs.SkeletonNodes.{has_operands, takes_count}
-use Rattle.lk_written.specs.MeasureNodes.{measure_nodes, is_of_measure, takes_measures, joint_arithmetic, number_node, call_node, joint_node}
+use Rattle.lk_written.specs.MeasureNodes.{measure_nodes, joint_arithmetic, number_node, call_node, joint_node}
+use Rattle.lk_written.proofs.NodeForms.{has_operands, takes_count, is_of_measure, takes_measures}
 use Rattle.lk_written.proofs.Numbered.{numbered, length-numbered, args-numbered, total}
 
 -- the nodes build these expressions

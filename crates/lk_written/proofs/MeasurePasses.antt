@@ -14,7 +14,8 @@ use Rattle.lk_objects.specs.declared.code.Reference.{Reference}
 use Rattle.lk_written.specs.References.{references_of}
 use Rattle.lk_written.specs.Calculations.{measure_skeleton}
 use Rattle.lk_written.specs.SkeletonNodes.{node_references}
-use Rattle.lk_written.specs.MeasureNodes.{is_of_measure, measure_nodes}
+use Rattle.lk_written.specs.MeasureNodes.{measure_nodes}
+use Rattle.lk_written.proofs.NodeForms.{is_of_measure}
 use Rattle.lk_written.proofs.MeasureNodeLaws.{node_adds}
 use Rattle.lk_written.proofs.Passes.{IsPassed, passes_at, passes_none, passed_names, passed_nodes}
 

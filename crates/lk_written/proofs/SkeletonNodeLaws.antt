@@ -23,7 +23,8 @@ use Rattle.lk_expr_tree.specs.RawNodes.{arity, made, operand, args_among, branch
 use Rattle.lk_expr_tree.proofs.GatheredLaws.{last_of}
 use Rattle.lk_written.specs.References.{references_among, count}
 use Rattle.lk_written.specs.Skeletons.{skeleton, skeletons, branch_skeletons, unless, joined, called}
-use Rattle.lk_written.specs.SkeletonNodes.{skeleton_nodes, has_operands, takes_count, are_pairs, denied, joint_node, call_node}
+use Rattle.lk_written.specs.SkeletonNodes.{skeleton_nodes, denied, joint_node, call_node}
+use Rattle.lk_written.proofs.NodeForms.{has_operands, takes_count, are_pairs}
 use Rattle.lk_written.proofs.Numbered.{numbered, length-numbered, numbered-append, args-numbered, branches-numbered, branches_references, total}
 
 -- the nodes build these expressions

@@ -14,7 +14,8 @@ use Rattle.lk_expr_tree.specs.RawNodes.{arity, trees_of}
 use Rattle.lk_objects.specs.declared.code.Reference.{Reference}
 use Rattle.lk_written.specs.References.{references_of}
 use Rattle.lk_written.specs.Skeletons.{skeleton}
-use Rattle.lk_written.specs.SkeletonNodes.{has_operands, node_references, skeleton_nodes}
+use Rattle.lk_written.specs.SkeletonNodes.{node_references, skeleton_nodes}
+use Rattle.lk_written.proofs.NodeForms.{has_operands}
 use Rattle.lk_written.proofs.SkeletonNodeLaws.{node_adds}
 use Rattle.lk_written.proofs.Passes.{IsPassed, passes_at, passes_none, passed_names, passed_nodes}
 

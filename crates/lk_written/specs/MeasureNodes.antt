@@ -1,5 +1,5 @@
 -- How the expression of a measure of type number is found: what each node of a tree adds to the list of nodes.
-use Rattle.std.specs.Prelude.{ℕ, Bool, true, false, nat_eq, nat_lt, List, [], ◌∷◌, Option, Some, None, is_some, Result, Ok, Err}
+use Rattle.std.specs.Prelude.{ℕ, List, [], ◌∷◌, Option, Some, None, Result, Ok, Err}
 use Rattle.lk_val.specs.Numbers.{num_of}
 use Rattle.lk_val.specs.declared.num.Num.{Num}
 use Rattle.lk_val.specs.declared.num.NumFault.{NumFault}
@@ -15,14 +15,7 @@ use Rattle.lk_expr_tree.specs.declared.raw.Joint.TheVariants as joint
 use Rattle.lk_expr_tree.specs.declared.raw.RawNode.{RawNode}
 use Rattle.lk_expr_tree.specs.declared.raw.RawNode.TheVariants as raw
 
--- the function is one of measures, and takes so many arguments
-abbrev pub takes_measures : Option Function → ℕ → Bool
-takes_measures None count = false
-takes_measures (Some function.Coalesce) count = nat_lt 0 count
-takes_measures (Some function.NullIf) count = nat_eq count 2
-takes_measures (Some function.Lower) count = false
-takes_measures (Some function.Upper) count = false
-
+-- the operation of a joint of numbers
 abbrev pub joint_arithmetic : Joint → Option Arithmetic
 joint_arithmetic joint.Plus = Some arithmetic.Plus
 joint_arithmetic joint.Minus = Some arithmetic.Minus
@@ -57,15 +50,3 @@ measure_nodes n (raw.Call name place count) = call_node (function_of name) count
 measure_nodes n raw.Negate = node.Negate ∷ []
 measure_nodes n (raw.Chain j) = joint_node (joint_arithmetic j)
 measure_nodes n other = []
-
--- the node may stand in a measure, with as many operands as one of its kind has; those of a tree that a text of measures
--- spells all may
-abbrev pub is_of_measure : RawNode → Bool
-is_of_measure (raw.Number number) = true
-is_of_measure (raw.Field name) = true
-is_of_measure (raw.FieldOf view name) = true
-is_of_measure raw.Group = true
-is_of_measure (raw.Call name place count) = takes_measures (function_of name) count
-is_of_measure raw.Negate = true
-is_of_measure (raw.Chain j) = is_some (joint_arithmetic j)
-is_of_measure other = false

@@ -1,5 +1,5 @@
 -- How an expression with numbers in place of its names is found: what each node of a tree adds to the list of nodes.
-use Rattle.std.specs.Prelude.{ℕ, zero, suc, ◌-◌, Bool, true, false, ◌&&◌, nat_eq, nat_lt, List, [], ◌∷◌, Option, Some, None}
+use Rattle.std.specs.Prelude.{ℕ, Bool, true, false, ◌&&◌, List, [], ◌∷◌, Option, Some, None}
 use Rattle.std.specs.Str.{is_utf8}
 use Rattle.lk_val.specs.Numbers.{num_of}
 use Rattle.lk_val.specs.declared.value.Value.TheVariants as value
@@ -26,29 +26,6 @@ node_references (raw.Field name) = reference.Own name ∷ []
 node_references (raw.FieldOf view name) = reference.Of view name ∷ []
 node_references n = []
 
--- the function takes so many arguments
-abbrev pub takes_count : Option Function → ℕ → Bool
-takes_count None count = false
-takes_count (Some function.Coalesce) count = nat_lt 0 count
-takes_count (Some function.NullIf) count = nat_eq count 2
-takes_count (Some function.Lower) count = nat_eq count 1
-takes_count (Some function.Upper) count = nat_eq count 1
-
--- so many are one pair or more
-abbrev pub are_pairs : ℕ → Bool
-are_pairs zero = false
-are_pairs (suc zero) = false
-are_pairs (suc (suc zero)) = true
-are_pairs (suc (suc (suc n))) = are_pairs (suc n)
-
--- the node has as many operands as one of its kind has
-abbrev pub has_operands : RawNode → Bool
-has_operands (raw.Call name place count) = takes_count (function_of name) count
-has_operands (raw.Case count) = are_pairs count
-has_operands (raw.CaseElse count) = are_pairs (count - 1)
-has_operands (raw.In negated count) = nat_lt 1 count
-has_operands n = true
-
 -- the name that the node is, if it is one, is a text
 abbrev pub is_named : RawNode → Bool
 is_named (raw.Name name place) = is_utf8 name
@@ -56,10 +33,6 @@ is_named (raw.Column name) = is_utf8 name
 is_named (raw.Field name) = is_utf8 name
 is_named (raw.FieldOf view name) = is_utf8 view && is_utf8 name
 is_named n = true
-
--- what each node has of a tree that a text spells, all of whose calls are known
-abbrev pub is_formed : RawNode → Bool
-is_formed n = has_operands n && is_named n
 
 -- a test, and NOT behind it where it is denied
 abbrev pub denied : Bool → Node → List Node

@@ -3,7 +3,8 @@ use Rattle.std.specs.List.{list_all}
 use Rattle.lk_expr_tree.specs.NodeCalls.{is_measure_node}
 use Rattle.lk_expr_tree.specs.RawCode.{tree_of}
 use Rattle.lk_expr_tree.proofs.MeasureLaws.{measure_of_nodes}
-use Rattle.lk_written.specs.SkeletonNodes.{has_operands, is_formed, is_named}
+use Rattle.lk_written.specs.SkeletonNodes.{is_named}
+use Rattle.lk_written.proofs.NodeForms.{has_operands, is_formed}
 use Rattle.lk_written.proofs.TokenLaws.{both_true}
 use Rattle.lk_written.proofs.FormedLaws.{all_formed, at_place, formed_at, good_of}
 use Rattle.lk_written.proofs.MeasureNodeLaws.{of_measure}

@@ -1,7 +1,8 @@
 use Rattle.std.proofs.Common.{◌≡◌, true}
 use Rattle.std.specs.List.{list_all}
 use Rattle.lk_expr_tree.specs.RawCode.{tree_of}
-use Rattle.lk_written.specs.SkeletonNodes.{has_operands, is_formed, is_named}
+use Rattle.lk_written.specs.SkeletonNodes.{is_named}
+use Rattle.lk_written.proofs.NodeForms.{has_operands, is_formed}
 use Rattle.lk_written.proofs.TokenLaws.{both_true}
 use Rattle.lk_written.proofs.FormedLaws.{all_formed, formed_at, good_of}
 use Rattle.lk_written.proofs.SkeletonPasses.{goes_on}
