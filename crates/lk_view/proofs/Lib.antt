@@ -1,1 +1,4 @@
+pub mod EntryLaws
+pub mod FieldListLaws
 pub mod FoldLaws
+pub mod InsertLaws

@@ -23,56 +23,17 @@ use Rattle.lk_params.specs.Parameters.{items_of, last_named}
 use Rattle.lk_params.specs.Values.{scalar, words}
 use Rattle.lk_params.specs.Findings.{finding, named_line, placed_line}
 use Rattle.lk_params.specs.Known.{if_so, block_findings}
-use Rattle.lk_view.specs.Values.{text_at, is_no_truth, is_wrong_at, is_pair, filters_at}
+use Rattle.lk_written.specs.CodeFindings.{code_findings}
+use Rattle.lk_written.specs.FilterFindings.{filters_findings}
+use Rattle.lk_written.specs.ValueFindings.{wrong}
+use Rattle.lk_written.specs.Values.{text_at, is_missing, is_no_truth, is_text, is_wrong_at}
 use Rattle.lk_view.specs.FieldValues.{frame_named, bounds_in}
 
--- a value outside the profile, or a missing one, at a parameter
-abbrev pub wrong : Order → List ℕ → List ℕ → List ℕ → Bool → List Finding
-wrong o object at parameter so = if_so so (finding o N14 at (named_line N14 object parameter))
-
--- ---- filters, within a parameter of the object
-
--- entries that are no pairs; an older block without `field` or `value`, or with other parameters; any other value
-abbrev pub filters_wrong : Order → List ℕ → List ℕ → Node → List Finding
-filters_wrong o object at (node.List entries) =
-    flat_map (λ e. wrong o object at (codes "filters") (not (is_pair e))) entries
-filters_wrong o object at (node.Block None inner) =
-    block_findings o owner.Filters object (Some at) (items_of inner)
-    ++ wrong o object at (codes "field") (not (is_some (text_at (codes "field") (items_of inner))))
-    ++ wrong o object at (codes "value") (not (is_some (text_at (codes "value") (items_of inner))))
-filters_wrong o object at value = wrong o object at (codes "filters") true
-
--- a filter's text of over 4,096 bytes
-abbrev pub too_long : Order → List ℕ → List ℕ × List ℕ → List Finding
-too_long o at pair = if_so (nat_lt 4096 (length pair.1)) (finding o N15 at (named_line N15 (codes "filter") []))
-
--- all `filters` of a block, and then the texts that are too long
-abbrev pub filters_findings : Order → List ℕ → List ℕ → List Item → List Finding
-filters_findings o object at items =
-    flat_map (λ item. if is_same_text item.name (codes "filters") then filters_wrong o object at item.value else []) items
-    ++ flat_map (too_long o at) (filters_at items)
-
--- ---- codes
-
--- what is wrong with the text of an expression
-abbrev pub code_findings : Order → List ℕ → List ℕ → Code → List Finding
-code_findings o object at (code.Syntax place) = finding o E1 at (placed_line E1 place object) ∷ []
-code_findings o object at (code.Call place) = finding o E2 at (placed_line E2 place object) ∷ []
-code_findings o object at c = []
-
 -- ---- the three sorts, given the name `view.field`
-
-abbrev pub is_missing : List ℕ → List Item → Bool
-is_missing name items = not (is_some (last_named name items))
 
 -- no list of ascending whole numbers
 abbrev pub is_no_bounds : Node → Bool
 is_no_bounds value = not (is_some (bounds_in value))
-
--- a text is this one
-abbrev pub is_text : List ℕ → Option (List ℕ) → Bool
-is_text wanted None = false
-is_text wanted (Some text) = is_same_text text wanted
 
 abbrev pub is_other_style : Node → Bool
 is_other_style value = not (is_text (codes "integer") (scalar value))

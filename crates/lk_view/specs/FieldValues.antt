@@ -20,7 +20,7 @@ use Rattle.lk_objects.specs.declared.field.FieldSort.TheVariants as sort
 use Rattle.lk_params.specs.Parameters.{last_named}
 use Rattle.lk_params.specs.Picking.{firsts}
 use Rattle.lk_params.specs.Values.{prefixed, scalar, words}
-use Rattle.lk_view.specs.Values.{text_at}
+use Rattle.lk_written.specs.Values.{text_at}
 
 -- ---- types
 

@@ -1,4 +1,9 @@
-pub mod Values
-pub mod FieldValues
+pub mod Blocks
+pub mod DerivedTables
 pub mod FieldFindings
+pub mod FieldOrder
+pub mod FieldValues
 pub mod Fields
+pub mod Tables
+pub mod ViewFindings
+pub mod Views

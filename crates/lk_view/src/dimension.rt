@@ -2,16 +2,15 @@ ghost use Rattle.std.specs.Prelude.{◌≡◌, not, codes, IfOk};
 ghost use Rattle.std.specs.List.{fold};
 ghost use Rattle.lk_params.specs.Findings.{sooner};
 ghost use Rattle.lk_params.specs.Values.{scalar};
-ghost use Rattle.lk_view.specs.Values.{is_no_truth, is_wrong_at};
+ghost use Rattle.lk_written.specs.Values.{is_no_truth, is_wrong_at};
 ghost use Rattle.lk_view.specs.FieldFindings.{dimension_findings};
 
-use crate::field_findings::add_wrong;
 use crate::tier_findings::find_in_tiers;
-use crate::values::is_no_truth;
 use lk_objects::DimensionType;
-use lk_params::{Findings, last_named, scalar};
+use lk_params::{Findings, Order, last_named, scalar};
 use lk_read::Item;
 use lk_val::NoMemory;
+use lk_written::{add_wrong, is_no_truth};
 use std::alloc::Global;
 
 /// The faults of a dimension's values: another type, a `primary_key` that is neither yes nor no, and those of its tiers.
@@ -26,9 +25,17 @@ pub fn find_in_dimension(
     ensures { IfOk result (λ _. findings.new.first
         ≡ fold sooner findings.old.first (dimension_findings object.now items.now kind)) }
 {
-    add_wrong(alloc, object, "type", kind.is_none(), findings)?;
     add_wrong(
         alloc,
+        Order::Field,
+        object,
+        "type",
+        kind.is_none(),
+        findings,
+    )?;
+    add_wrong(
+        alloc,
+        Order::Field,
         object,
         "primary_key",
         has_no_key_mark(items),

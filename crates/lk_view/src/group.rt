@@ -2,16 +2,15 @@ ghost use Rattle.std.specs.Prelude.{◌≡◌, IfOk, codes, is_some, not};
 ghost use Rattle.std.specs.List.{fold, list_all};
 ghost use Rattle.lk_params.specs.Findings.{sooner};
 ghost use Rattle.lk_params.specs.Values.{words};
-ghost use Rattle.lk_view.specs.FieldFindings.{group_findings, is_text, lists_frames};
+ghost use Rattle.lk_view.specs.FieldFindings.{group_findings, lists_frames};
+ghost use Rattle.lk_written.specs.Values.{is_text, is_wrong_at};
 ghost use Rattle.lk_view.specs.FieldValues.{frame_named};
-ghost use Rattle.lk_view.specs.Values.{is_wrong_at};
 
-use crate::field_findings::{add_wrong, is_missing};
 use crate::frames::frame_named;
-use crate::values::{is_text, text_at};
-use lk_params::{Findings, last_named, words};
+use lk_params::{Findings, Order, last_named, words};
 use lk_read::Item;
 use lk_val::{Items, NoMemory, Text};
+use lk_written::{add_wrong, is_missing, is_text, text_at};
 use std::alloc::Global;
 
 /// The faults of a dimension group's values: another type than `time`, a timeframe that there is not, and a missing `sql`.
@@ -27,9 +26,23 @@ pub fn find_in_group(
 {
     let is_time = is_text("time", text_at("type", items));
     let has_others = has_other_frames(alloc, items)?;
-    add_wrong(alloc, object, "type", !is_time, findings)?;
-    add_wrong(alloc, object, "timeframes", has_others, findings)?;
-    add_wrong(alloc, object, "sql", is_missing("sql", items), findings)
+    add_wrong(alloc, Order::Field, object, "type", !is_time, findings)?;
+    add_wrong(
+        alloc,
+        Order::Field,
+        object,
+        "timeframes",
+        has_others,
+        findings,
+    )?;
+    add_wrong(
+        alloc,
+        Order::Field,
+        object,
+        "sql",
+        is_missing("sql", items),
+        findings,
+    )
 }
 
 fn has_other_frames(alloc: Global, items: &[Item]) -> Result<bool, NoMemory>

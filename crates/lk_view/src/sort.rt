@@ -1,15 +1,15 @@
 ghost use Rattle.std.specs.Prelude.{◌≡◌, codes};
 ghost use Rattle.std.specs.Option.{option_and_then};
 ghost use Rattle.lk_view.specs.FieldValues.{dimension_type_of, measure_type, sort_of};
-ghost use Rattle.lk_view.specs.Values.{text_at};
+ghost use Rattle.lk_written.specs.Values.{text_at};
 ghost use Rattle.lk_params.specs.Parameters.{last_named};
 
 use crate::field_type::{dimension_type, measure_type};
-use crate::values::text_at;
 use lk_objects::{DimensionType, FieldSort};
 use lk_params::{last_named, scalar};
 use lk_read::Item;
 use lk_types::Op;
+use lk_written::text_at;
 
 /// A field's sort with its type, by the parameter that declares it: `dimension`, `measure`, or else `dimension_group`.
 pub fn sort_of(kind: &str, items: &[Item]) -> FieldSort

@@ -1,16 +1,15 @@
 ghost use Rattle.std.specs.Prelude.{◌≡◌, ◌||◌, ◌&&◌, IfOk, codes};
 ghost use Rattle.std.specs.List.{fold};
 ghost use Rattle.lk_params.specs.Findings.{sooner};
-ghost use Rattle.lk_view.specs.FieldFindings.{is_missing, is_no_bounds, is_other_style, is_tier, tier_findings};
-ghost use Rattle.lk_view.specs.Values.{is_wrong_at};
+ghost use Rattle.lk_view.specs.FieldFindings.{is_no_bounds, is_other_style, is_tier, tier_findings};
+ghost use Rattle.lk_written.specs.Values.{is_missing, is_wrong_at};
 
-use crate::field_findings::{add_wrong, is_missing};
 use crate::tiers::bounds_in;
-use crate::values::is_text;
 use lk_objects::DimensionType;
-use lk_params::{Findings, last_named, scalar};
+use lk_params::{Findings, Order, last_named, scalar};
 use lk_read::Item;
 use lk_val::NoMemory;
+use lk_written::{add_wrong, is_missing, is_text};
 use std::alloc::Global;
 
 /// The faults of a dimension's tiers: bounds that are missing where it is a tier, or no ascending whole numbers, and
@@ -27,8 +26,15 @@ pub fn find_in_tiers(
 {
     let lacks_tiers = is_tier(kind) && is_missing("tiers", items);
     let is_wrong = has_no_bounds(alloc, items)? || lacks_tiers;
-    add_wrong(alloc, object, "tiers", is_wrong, findings)?;
-    add_wrong(alloc, object, "style", has_other_style(items), findings)
+    add_wrong(alloc, Order::Field, object, "tiers", is_wrong, findings)?;
+    add_wrong(
+        alloc,
+        Order::Field,
+        object,
+        "style",
+        has_other_style(items),
+        findings,
+    )
 }
 
 fn has_no_bounds(alloc: Global, items: &[Item]) -> Result<bool, NoMemory>

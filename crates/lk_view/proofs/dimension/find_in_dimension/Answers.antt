@@ -4,7 +4,8 @@ use Rattle.std.specs.Prelude.{is_some}
 use Rattle.lk_params.specs.declared.finding.Finding.{Finding}
 use Rattle.lk_params.specs.declared.number.Order.TheVariants as order
 use Rattle.lk_params.specs.Findings.{sooner}
-use Rattle.lk_view.specs.FieldFindings.{wrong, tier_findings}
+use Rattle.lk_written.specs.ValueFindings.{wrong}
+use Rattle.lk_view.specs.FieldFindings.{tier_findings}
 use Rattle.lk_view.proofs.FoldLaws.{three, from_not}
 use Rattle.lk_view.proofs.dimension.find_in_dimension.Goals as goal
 

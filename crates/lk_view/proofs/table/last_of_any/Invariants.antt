@@ -1,0 +1,9 @@
+use Rattle.std.proofs.Common.{◌≡◌, map, length, ℕ}
+use Rattle.lk_view.specs.Tables.{any_name, last_name, unless_empty}
+use Rattle.lk_view.proofs.table.last_of_any.Given as goal
+
+abbrev pub decreases-loop-rest : goal.decreases-loop-rest
+decreases-loop-rest l = length l.rest
+
+abbrev pub invariant-loop-rest : goal.invariant-loop-rest
+invariant-loop-rest l = last_name any_name (map (λ t. t.now) l.rest) ≡ last_name any_name (map (λ t. t.now) l.fn.texts)
