@@ -1,0 +1,14 @@
+//! The fields of an explore or of one view: which field a name means.
+#![tactic(auto)]
+
+mod frame;
+mod made;
+mod names;
+mod scope;
+mod view_names;
+
+pub use frame::frame_name;
+pub use made::{frame_made, has_sort};
+pub use names::{found_by, found_in, part_meant, split_name};
+pub use scope::{Found, Place, Scope, ScopePart, Sort, Writer};
+pub use view_names::in_view;
