@@ -8,8 +8,12 @@ use lk_objects::DeclaredView;
 use lk_types::Frame;
 use lk_val::NoMemory;
 
-// The view of a part.
-fn view_at<'a>(views: &'a [DeclaredView], scope: &Scope, part: usize) -> Option<&'a DeclaredView>
+/// The view of a part.
+pub fn view_at<'a>(
+    views: &'a [DeclaredView],
+    scope: &Scope,
+    part: usize,
+) -> Option<&'a DeclaredView>
     ensures { option_map (λ v. v.now) result ≡ view_at views.now scope.now part }
 {
     let part = scope.parts.as_slice().get(part)?;
