@@ -4,13 +4,16 @@
 mod frame;
 mod made;
 mod names;
+mod places;
 mod references;
+mod rows;
 mod scope;
 mod view_names;
 
 pub use frame::frame_name;
 pub use made::{frame_made, has_sort};
 pub use names::{found_by, found_in, part_meant, split_name, view_at};
+pub use places::all_places;
 pub use references::{field_at, fields_at, named_by, referred};
 pub use scope::{Found, Place, Scope, ScopePart, Sort, Writer};
 pub use view_names::in_view;

@@ -2,7 +2,8 @@ ghost use Rattle.std.specs.Prelude.{◌≡◌, IfOk, option_map};
 ghost use Rattle.std.specs.Option.{option_and_then};
 ghost use Rattle.lk_fields.specs.Scopes.{found_by, found_in, found_in_part, in_view, is_called, part_from, part_meant, part_named, split_name, view_at};
 
-use crate::scope::{Found, Place, Scope, Sort, Writer};
+use crate::places::place_at;
+use crate::scope::{Found, Scope, Sort, Writer};
 use crate::view_names::in_view;
 use lk_objects::DeclaredView;
 use lk_types::Frame;
@@ -117,21 +118,6 @@ fn in_part(
     ensures { result ≡ option_and_then (in_view sort name.now) (view_at views.now scope.now part) }
 {
     in_view(sort, name, view_at(views, scope, part)?)
-}
-
-fn place_at(part: usize, field: usize) -> Result<Place, NoMemory>
-    ensures { IfOk result (λ place. place ≡ record { part = part; field = field }) }
-{
-    Ok(Place {
-        part: number(part)?,
-        field: number(field)?,
-    })
-}
-
-fn number(place: usize) -> Result<u32, NoMemory>
-    ensures { IfOk result (λ n. n ≡ place) }
-{
-    u32::try_from(place).map_err(|_| NoMemory)
 }
 
 /// A name as `view.name`, up to the first dot, or as `name`.
