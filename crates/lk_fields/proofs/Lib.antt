@@ -1,2 +1,3 @@
 pub mod DotLaws
+pub mod MarkLaws
 pub mod PrefixLaws

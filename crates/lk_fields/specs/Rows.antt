@@ -1,5 +1,7 @@
 -- What each field of a scope names, by numbers, and the rounds by which fields are lost.
 use Rattle.std.specs.Prelude.{ℕ, zero, suc, ◌+◌, Bool, true, false, ◌||◌, List, [], ◌∷◌, ◌++◌, map, Option, Some, None, is_none, length, slice_index_or}
+use Rattle.std.specs.Bool.{beq}
+use Rattle.std.specs.Cmp.Lexicographic.{pointwise}
 use Rattle.std.specs.List.{list_any, position}
 use Rattle.std.specs.Option.{option_and_then}
 use Rattle.lk_objects.specs.declared.field.DeclaredField.{DeclaredField}
@@ -66,3 +68,7 @@ no_marks rows = map (λ row. false) rows
 abbrev pub marks_after : ℕ → List Row → List Bool
 marks_after zero rows = no_marks rows
 marks_after (suc n) rows = next_marks rows (marks_after n rows)
+
+-- the marks are the same, one by one
+abbrev pub are_same : List Bool → List Bool → Bool
+are_same = pointwise beq

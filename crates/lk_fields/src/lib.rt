@@ -3,6 +3,7 @@
 
 mod frame;
 mod made;
+mod marks;
 mod names;
 mod places;
 mod references;

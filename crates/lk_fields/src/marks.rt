@@ -1,0 +1,80 @@
+ghost use Rattle.std.specs.Prelude.{◌≡◌, ◌||◌, IfOk, length};
+ghost use Rattle.std.specs.List.{list_any};
+ghost use Rattle.lk_fields.specs.Rows.{are_same, is_marked, is_taken, marks_after, marks_from, next_marks, no_marks};
+
+use crate::rows::Row;
+use lk_val::{Items, NoMemory};
+use std::alloc::Global;
+
+// The marks of fields after as many rounds as there are fields; they end where a round marks nothing.
+pub(crate) fn last_marks(alloc: Global, rows: &[Row]) -> Result<Items<bool>, NoMemory>
+    ensures { IfOk result (λ marks. marks ≡ marks_after (length rows.now) rows.now) }
+{
+    let mut marks = no_marks(alloc, rows)?;
+    for _round in 0..rows.len() {
+        let next = next_marks(alloc, rows, marks.as_slice())?;
+        if are_same(next.as_slice(), marks.as_slice()) {
+            return Ok(marks);
+        }
+        marks = next;
+    }
+    Ok(marks)
+}
+
+fn no_marks(alloc: Global, rows: &[Row]) -> Result<Items<bool>, NoMemory>
+    ensures { IfOk result (λ marks. marks ≡ no_marks rows.now) }
+{
+    let mut marks = Items::new(alloc);
+    for _row in rows {
+        marks.push(false)?;
+    }
+    Ok(marks)
+}
+
+fn next_marks(alloc: Global, rows: &[Row], marks: &[bool]) -> Result<Items<bool>, NoMemory>
+    ensures { IfOk result (λ next. next ≡ next_marks rows.now marks.now) }
+{
+    let mut next = Items::new(alloc);
+    for number in 0..rows.len() {
+        next.push(is_marked_after(marks, number, &rows[number]))?;
+    }
+    Ok(next)
+}
+
+fn is_marked_after(marks: &[bool], number: usize, row: &Row) -> bool
+    ensures { result ≡ (is_marked marks.now number || is_taken marks.now row.now) }
+{
+    is_marked(marks, number) || is_taken(marks, row)
+}
+
+fn is_marked(marks: &[bool], number: usize) -> bool
+    ensures { result ≡ is_marked marks.now number }
+{
+    match marks.get(number) {
+        None => false,
+        Some(mark) => *mark,
+    }
+}
+
+fn is_taken(marks: &[bool], row: &Row) -> bool
+    ensures { result ≡ is_taken marks.now row.now }
+{
+    row.lacks || names_marked(marks, row.names.as_slice())
+}
+
+fn names_marked(marks: &[bool], names: &[usize]) -> bool
+    ensures { result ≡ list_any (is_marked marks.now) names.now }
+{
+    for number in names {
+        if is_marked(marks, *number) {
+            return true;
+        }
+    }
+    false
+}
+
+fn are_same(a: &[bool], b: &[bool]) -> bool
+    ensures { result ≡ are_same a.now b.now }
+{
+    a == b
+}
