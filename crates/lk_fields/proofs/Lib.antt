@@ -1,3 +1,4 @@
 pub mod DotLaws
+pub mod LostLaws
 pub mod MarkLaws
 pub mod PrefixLaws

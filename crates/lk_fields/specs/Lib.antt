@@ -1,3 +1,4 @@
 pub mod Existing
+pub mod FieldSets
 pub mod Rows
 pub mod Scopes

@@ -1,6 +1,7 @@
 //! The fields of an explore or of one view: which field a name means.
 #![tactic(auto)]
 
+mod existing;
 mod frame;
 mod made;
 mod marks;
@@ -11,6 +12,7 @@ mod rows;
 mod scope;
 mod view_names;
 
+pub use existing::FieldSet;
 pub use frame::frame_name;
 pub use made::{frame_made, has_sort};
 pub use names::{found_by, found_in, part_meant, split_name, view_at};

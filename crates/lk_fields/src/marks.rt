@@ -1,6 +1,6 @@
 ghost use Rattle.std.specs.Prelude.{◌≡◌, ◌||◌, IfOk, length};
 ghost use Rattle.std.specs.List.{list_any};
-ghost use Rattle.lk_fields.specs.Rows.{are_same, is_marked, is_taken, marks_after, marks_from, next_marks, no_marks};
+ghost use Rattle.lk_fields.specs.Rows.{are_same, is_marked, is_taken, marks_after, marks_from, next_marks, no_marks, option_list};
 
 use crate::rows::Row;
 use lk_val::{Items, NoMemory};
@@ -77,4 +77,14 @@ fn are_same(a: &[bool], b: &[bool]) -> bool
     ensures { result ≡ are_same a.now b.now }
 {
     a == b
+}
+
+// There is a number, and its field is marked.
+pub(crate) fn is_one_marked(marks: &[bool], number: Option<usize>) -> bool
+    ensures { result ≡ list_any (is_marked marks.now) (option_list number) }
+{
+    match number {
+        None => false,
+        Some(number) => is_marked(marks, number),
+    }
 }
