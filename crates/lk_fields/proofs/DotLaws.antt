@@ -1,9 +1,9 @@
 -- A name with and without a dot.
-use Rattle.std.proofs.Common.{◌≡◌, ◌∙◌, ℕ, ◌<◌, ◌≤◌, Bool, true, false, List, length, Option, Some, None, sym, ap, arith}
+use Rattle.std.proofs.Common.{◌≡◌, ◌∙◌, ℕ, ◌<◌, ◌≤◌, Bool, List, length, Option, Some, None, sym, ap, arith}
 use Rattle.std.specs.Prelude.{if◌then◌else◌}
 use Rattle.std.specs.List.{after_first, before_first, position_or_len}
 use Rattle.std.proofs.lemmas.Bool.{lt-ltb, le-ltb}
-use Rattle.lk_fields.specs.Scopes.{has_dot, is_dot, split_name}
+use Rattle.lk_fields.specs.Scopes.{is_dot, split_name}
 
 abbrev split_by : List ℕ → Bool → Option (List ℕ) × List ℕ
 split_by whole dot = if dot then (Some (before_first is_dot whole), after_first is_dot whole) else (None, whole)

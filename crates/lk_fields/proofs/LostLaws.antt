@@ -1,7 +1,7 @@
 -- Rounds of marks over numbers are rounds of the set of lost fields.
-use Rattle.std.proofs.Common.{◌≡◌, ◌∙◌, ℕ, zero, suc, ◌+◌, Bool, true, false, ◌&&◌, ◌||◌, List, [], ◌∷◌, ◌++◌, length, map, Option, Some, None, refl, sym, ap, arith, append_assoc, length-append}
-use Rattle.std.specs.Prelude.{filter, if◌then◌else◌, nat_eq, slice_index_or, is_none}
-use Rattle.std.specs.List.{list_any, position, position_from}
+use Rattle.std.proofs.Common.{◌≡◌, ◌∙◌, ℕ, zero, suc, ◌+◌, Bool, true, false, ◌&&◌, ◌||◌, List, [], ◌∷◌, ◌++◌, length, map, Option, Some, None, refl, sym, ap, append_assoc, length-append}
+use Rattle.std.specs.Prelude.{filter, if◌then◌else◌, nat_eq}
+use Rattle.std.specs.List.{list_any, position_from}
 use Rattle.std.proofs.lemmas.Bool.{eq-eqb, eqb-true, false≢true}
 use Rattle.std.proofs.lemmas.Iterator.Adapters.{position_from-zero}
 use Rattle.std.proofs.lemmas.List.Folds.{list_any-append}
@@ -14,7 +14,7 @@ use Rattle.lk_fields.specs.declared.scope.Place.{Place}
 use Rattle.lk_fields.specs.declared.scope.Scope.{Scope}
 use Rattle.lk_fields.specs.declared.rows.Row.{Row}
 use Rattle.lk_fields.specs.Existing.{all_places, field_at, is_lost_after, is_lost_with, is_same_place, lost, loses, named_by}
-use Rattle.lk_fields.specs.Rows.{is_marked, is_taken, lacks_one, marks_after, marks_from, number_named, number_of, numbers_in, option_list, row_at, row_by, row_with}
+use Rattle.lk_fields.specs.Rows.{is_marked, is_taken, lacks_one, marks_after, marks_from, number_of, numbers_in, option_list, row_at, row_by}
 
 -- ---- places
 

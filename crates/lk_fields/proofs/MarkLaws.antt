@@ -1,7 +1,5 @@
 -- Rounds that mark nothing more.
-use Rattle.std.proofs.Common.{◌≡◌, ◌∙◌, ℕ, zero, suc, ◌+◌, ◌-◌, ◌≤◌, Bool, true, false, List, [], ◌∷◌, refl, sym, ap, arith}
-use Rattle.std.specs.Bool.{beq}
-use Rattle.std.specs.Prelude.{◌&&◌}
+use Rattle.std.proofs.Common.{◌≡◌, ◌∙◌, ℕ, zero, suc, ◌+◌, ◌-◌, ◌≤◌, Bool, true, false, List, [], ◌∷◌, refl, ap, arith}
 use Rattle.std.proofs.lemmas.Bool.{false≢true}
 use Rattle.lk_fields.specs.declared.rows.Row.{Row}
 use Rattle.lk_fields.specs.Rows.{are_same, marks_after, next_marks}

@@ -1,5 +1,5 @@
 -- Which declared fields are fields of an explore, and which of them stand on cycles. (Looker, LookML reference: substitution operators; lookd)
-use Rattle.std.specs.Prelude.{ℕ, ◌+◌, ◌==◌, Bool, true, false, not, ◌&&◌, if◌then◌else◌, List, [], ◌∷◌, ◌++◌, map, Option, Some, None, slice_get}
+use Rattle.std.specs.Prelude.{ℕ, ◌+◌, ◌==◌, Bool, true, not, ◌&&◌, List, [], ◌∷◌, ◌++◌, map, Option, Some, None, slice_get}
 use Rattle.std.specs.List.{flat_map, list_any}
 use Rattle.lk_val.specs.Least.{is_in, least_set}
 use Rattle.lk_objects.specs.declared.code.Code.{Code}

@@ -11,7 +11,6 @@ use Rattle.lk_objects.specs.declared.field.FieldSort.TheVariants as field_sort
 use Rattle.lk_objects.specs.declared.view.DeclaredView.{DeclaredView}
 use Rattle.lk_fields.specs.declared.scope.Found.{Found}
 use Rattle.lk_fields.specs.declared.scope.Scope.{Scope}
-use Rattle.lk_fields.specs.declared.scope.ScopePart.{ScopePart}
 use Rattle.lk_fields.specs.declared.scope.Sort.{Sort}
 use Rattle.lk_fields.specs.declared.scope.Sort.TheVariants as sort
 use Rattle.lk_fields.specs.declared.scope.Writer.{Writer}

@@ -1,6 +1,5 @@
 -- The entries of filters that are numbered through.
-use Rattle.std.proofs.Common.{◌≡◌, ◌∙◌, ℕ, zero, suc, ◌+◌, List, [], ◌∷◌, ◌++◌, ap, arith}
-use Rattle.lk_objects.specs.declared.view.Entry.{Entry}
+use Rattle.std.proofs.Common.{◌≡◌, ◌∙◌, ℕ, zero, suc, ◌+◌, [], ◌∷◌, ◌++◌, ap, arith}
 use Rattle.lk_objects.specs.declared.view.Entry.TheVariants as entry
 use Rattle.lk_view.specs.DerivedTables.{filter_entries}
 

@@ -1,5 +1,5 @@
 -- One field more.
-use Rattle.std.proofs.Common.{◌≡◌, ℕ, List, [], ◌∷◌, ◌++◌}
+use Rattle.std.proofs.Common.{ℕ, List, [], ◌∷◌, ◌++◌}
 use Rattle.lk_read.specs.declared.tree.Item.{Item}
 use Rattle.lk_objects.specs.declared.field.DeclaredField.{DeclaredField}
 use Rattle.lk_view.specs.Blocks.{block_items, block_name}

@@ -1,28 +1,21 @@
 -- The faults of a field that its own parameters show. (lookd)
-use Rattle.std.specs.Prelude.{ℕ, Bool, true, false, not, ◌||◌, ◌&&◌, nat_lt, if◌then◌else◌, List, [], ◌∷◌, ◌++◌, Option, Some, None, is_some, codes, length}
-use Rattle.std.specs.List.{flat_map, list_all}
-use Rattle.lk_val.specs.Texts.{is_same_text}
+use Rattle.std.specs.Prelude.{ℕ, Bool, true, false, not, ◌||◌, ◌&&◌, List, ◌++◌, Option, Some, None, is_some, codes}
+use Rattle.std.specs.List.{list_all}
 use Rattle.lk_read.specs.declared.tree.Item.{Item}
 use Rattle.lk_read.specs.declared.tree.Node.{Node}
-use Rattle.lk_read.specs.declared.tree.Node.TheVariants as node
 use Rattle.lk_types.specs.declared.explore.Op.{Op}
 use Rattle.lk_types.specs.declared.explore.Op.TheVariants as op
 use Rattle.lk_objects.specs.declared.code.Code.{Code}
-use Rattle.lk_objects.specs.declared.code.Code.TheVariants as code
 use Rattle.lk_objects.specs.declared.field.DimensionType.{DimensionType}
 use Rattle.lk_objects.specs.declared.field.DimensionType.TheVariants as type
 use Rattle.lk_objects.specs.declared.field.FieldSort.{FieldSort}
 use Rattle.lk_objects.specs.declared.field.FieldSort.TheVariants as sort
 use Rattle.lk_params.specs.declared.owner.Owner.{Owner}
 use Rattle.lk_params.specs.declared.owner.Owner.TheVariants as owner
-use Rattle.lk_params.specs.declared.number.Order.{Order}
 use Rattle.lk_params.specs.declared.number.Order.TheVariants as order
-use Rattle.lk_params.specs.declared.number.Number.TheVariants.{N14, N15, E1, E2}
 use Rattle.lk_params.specs.declared.finding.Finding.{Finding}
-use Rattle.lk_params.specs.Parameters.{items_of, last_named}
 use Rattle.lk_params.specs.Values.{scalar, words}
-use Rattle.lk_params.specs.Findings.{finding, named_line, placed_line}
-use Rattle.lk_params.specs.Known.{if_so, block_findings}
+use Rattle.lk_params.specs.Known.{block_findings}
 use Rattle.lk_written.specs.CodeFindings.{code_findings}
 use Rattle.lk_written.specs.FilterFindings.{filters_findings}
 use Rattle.lk_written.specs.ValueFindings.{wrong}

@@ -1,7 +1,7 @@
 -- What the parameters of a dimension, a dimension group and a measure say. (Looker, LookML reference: dimension, dimension_group, measure; lookd)
-use Rattle.std.specs.Prelude.{ℕ, ℤ, pos, Bool, true, false, not, ◌||◌, ◌&&◌, nat_eq, nat_le, if◌then◌else◌, List, [], ◌∷◌, ◌++◌, Option, Some, None, Result, Ok, Err, codes, length}
+use Rattle.std.specs.Prelude.{ℕ, ℤ, pos, Bool, true, false, not, ◌||◌, ◌&&◌, nat_eq, nat_le, if◌then◌else◌, List, [], ◌∷◌, Option, Some, None, Result, Ok, Err, codes, length}
 use Rattle.std.specs.Prelude.{int_lt, int_div}
-use Rattle.std.specs.List.{filter, list_all}
+use Rattle.std.specs.List.{list_all}
 use Rattle.std.specs.Option.{option_and_then}
 use Rattle.lk_val.specs.Texts.{is_same_text}
 use Rattle.lk_val.specs.Numbers.{num_of}

@@ -16,7 +16,7 @@ use Rattle.lk_params.specs.Findings.{finding, named_line}
 use Rattle.lk_params.specs.Known.{along, block_findings, item_findings}
 use Rattle.lk_params.specs.Parameters.{items_of, last_named}
 use Rattle.lk_params.specs.Values.{code, scalar, words}
-use Rattle.lk_written.specs.Values.{code_at, is_missing, is_no_truth, is_text}
+use Rattle.lk_written.specs.Values.{is_missing, is_no_truth, is_text}
 use Rattle.lk_written.specs.ValueFindings.{wrong}
 use Rattle.lk_written.specs.FilterFindings.{filters_findings}
 use Rattle.lk_view.specs.Blocks.{block_items, is_named_block}

@@ -1,5 +1,8 @@
 use case_lines::CaseFault;
-use lk_objects::{Code, DeclaredField, DeclaredView, DerivedTable, DimensionType, Entry, FieldSort, Reference, Rows};
+use lk_objects::{
+    Code, DeclaredField, DeclaredView, DerivedTable, DimensionType, Entry, FieldSort, Reference,
+    Rows,
+};
 use lk_types::{Frame, Op};
 use lk_val::{Bytes, FaultLine, Items, Text};
 use std::alloc::Global;

@@ -1,4 +1,4 @@
-use Rattle.std.proofs.Common.{◌≡◌, ◌∙◌, ◌≤◌, length, sym, ap, true, arith}
+use Rattle.std.proofs.Common.{◌≡◌, ◌∙◌, length, sym, ap, true}
 use Rattle.lk_fields.specs.Rows.{are_same, marks_after, next_marks}
 use Rattle.lk_fields.proofs.MarkLaws.{same_marks, settled}
 use Rattle.lk_fields.proofs.marks.last_marks.Goals as goal

@@ -1,4 +1,4 @@
-use Rattle.std.proofs.Common.{◌≡◌, ◌≤◌, ◌++◌, length, take, drop, Some}
+use Rattle.std.proofs.Common.{◌≡◌, ◌≤◌, length, take, drop}
 use Rattle.std.specs.List.{fold}
 use Rattle.lk_params.specs.declared.owner.Owner.TheVariants as owner
 use Rattle.lk_params.specs.Findings.{sooner}

@@ -1,4 +1,4 @@
-use Rattle.std.proofs.Common.{◌∙◌, ◌+◌, ◌∷◌, ◌++◌, [], ap, sym, arith, append_assoc}
+use Rattle.std.proofs.Common.{◌∙◌, ◌∷◌, ◌++◌, [], ap, sym, arith, append_assoc}
 use Rattle.lk_objects.specs.declared.view.Entry.TheVariants as entry
 use Rattle.lk_view.specs.DerivedTables.{filter_entries}
 use Rattle.lk_view.proofs.EntryLaws.{one_more}

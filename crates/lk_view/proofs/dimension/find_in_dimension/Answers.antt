@@ -1,4 +1,4 @@
-use Rattle.std.proofs.Common.{◌≡◌, ◌∙◌, ◌++◌, Bool, List, ap, codes, sym}
+use Rattle.std.proofs.Common.{◌∙◌, ◌++◌, Bool, List, ap, codes, sym}
 use Rattle.std.specs.List.{fold}
 use Rattle.std.specs.Prelude.{is_some}
 use Rattle.lk_params.specs.declared.finding.Finding.{Finding}

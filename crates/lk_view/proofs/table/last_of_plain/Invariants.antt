@@ -1,5 +1,5 @@
-use Rattle.std.proofs.Common.{◌≡◌, map, length, ℕ}
-use Rattle.lk_view.specs.Tables.{any_name, last_name, unless_empty}
+use Rattle.std.proofs.Common.{◌≡◌, map, length}
+use Rattle.lk_view.specs.Tables.{last_name, unless_empty}
 use Rattle.lk_view.proofs.table.last_of_plain.Given as goal
 
 abbrev pub decreases-loop-rest : goal.decreases-loop-rest

@@ -1,4 +1,4 @@
-use Rattle.std.proofs.Common.{◌≡◌, map, take}
+use Rattle.std.proofs.Common.{map, take}
 use Rattle.lk_view.specs.Views.{AreFields}
 use Rattle.lk_view.proofs.view.read_blocks.Given as goal
 

@@ -1,4 +1,4 @@
-use Rattle.std.proofs.Common.{◌≡◌, ◌∙◌, Bool, List, length, map, ap, not}
+use Rattle.std.proofs.Common.{◌∙◌, Bool, List, length, map, ap, not}
 use Rattle.std.specs.List.{list_any}
 use Rattle.lk_objects.specs.declared.view.DeclaredView.{DeclaredView}
 use Rattle.lk_fields.specs.declared.scope.Scope.{Scope}
