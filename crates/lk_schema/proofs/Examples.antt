@@ -1,6 +1,6 @@
 -- Small schemas and users with what they declare, or their first faults.
-use Rattle.std.proofs.Common.{◌≡◌, ℕ, Bool, true, false, List, [], ◌∷◌, Option, Some, None, refl}
-use Rattle.std.specs.Prelude.{Result, Ok, Err, codes}
+use Rattle.std.proofs.Common.{◌≡◌, ℕ, true, false, List, [], ◌∷◌, Some, None, refl}
+use Rattle.std.specs.Prelude.{Ok, Err, codes}
 use Rattle.std.specs.Str.{is_utf8, chars}
 use Rattle.lk_val.specs.declared.fault.ModelFault.TheVariants.{Fault}
 use Rattle.lk_types.specs.declared.schema.Kind.TheVariants as kind

@@ -1,3 +1,4 @@
 pub mod RowLaws
 pub mod TableLaws
 mod Examples
+pub mod MapLaws

@@ -1,3 +1,4 @@
 pub mod Rows
 pub mod Schemas
 pub mod Users
+pub mod ByTable

@@ -5,7 +5,7 @@ use Rattle.std.specs.Cmp.Lexicographic.{slice_cmp}
 use Rattle.std.specs.BTreeSet.{contains}
 use Rattle.lk_val.specs.Texts.{is_same_text}
 use Rattle.lk_schema.specs.Schemas.{tables_in}
-use Rattle.lk_schema.proofs.RowLaws.{is_seen, seen_more}
+use Rattle.lk_schema.proofs.RowLaws.{seen_more}
 use Rattle.lk_schema.proofs.TableLaws.{table_step}
 use Rattle.lk_schema.proofs.tables.tables_in.Goals as goal
 

@@ -1,6 +1,6 @@
 use Rattle.std.proofs.Common.{◌≡◌, ◌++◌, drop}
 use Rattle.std.specs.Prelude.{map}
-use Rattle.lk_schema.specs.Schemas.{rows_in, table_of, tables_in}
+use Rattle.lk_schema.specs.Schemas.{rows_in, table_of}
 use Rattle.lk_schema.proofs.tables.tables_of.Given as goal
 
 abbrev pub invariant-loop-name : goal.invariant-loop-name
