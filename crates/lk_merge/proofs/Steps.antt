@@ -15,7 +15,7 @@ use Rattle.lk_merge.specs.Overlay.{is_same_slot}
 use Rattle.lk_merge.specs.declared.slot.Slot.{Slot}
 use Rattle.lk_merge.specs.declared.slot.Slot.TheVariants.{Parameter, Child}
 
-slot_exact : (a b : Slot) → is_same_slot a b ≡ true → a ≡ b
+pub slot_exact : (a b : Slot) → is_same_slot a b ≡ true → a ≡ b
 slot_exact (Parameter a) (Parameter b) e = ap Parameter (text_exact a b e)
 slot_exact (Child a b) (Child c d) e =
     elim (is_same_text a c) as (λ t. is_same_text a c ≡ t → (t && is_same_text b d) ≡ true → Child a b ≡ Child c d) [

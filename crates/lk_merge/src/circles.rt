@@ -3,8 +3,9 @@ ghost use Rattle.lk_merge.specs.Objects.{bases_of, declared_names};
 ghost use Rattle.lk_merge.specs.MergeFaults.{is_on_cycle};
 ghost use Rattle.lk_merge.specs.Ranks.{do_keep_down, is_at_most, keeps_down, leads};
 
+use crate::by_name::Declared;
 use crate::contributors::bases_of;
-use crate::declaration::{Declaration, Kind};
+use crate::declaration::Kind;
 use crate::paths::{path_back, reach_counts};
 use crate::ranks::{base_places, descends, rank_in};
 use lk_val::{Items, NoMemory, Text, is_among};
@@ -13,12 +14,12 @@ use std::alloc::Global;
 /// The least name that stands on a cycle of extensions, where numbers and a path show it, and none where they don't.
 pub fn shown_cycle<'a>(
     alloc: Global,
-    all: &[Declaration],
+    all: &Declared<'_>,
     kind: Kind,
     names: &'a [Text],
 ) -> Result<Option<&'a Text>, NoMemory>
-    requires { names.now ≡ declared_names all.now kind }
-    ensures { IfOk result (λ found. IfSome found (λ name. find (is_on_cycle all.now kind) names.now ≡ Some name.now)) }
+    requires { names.now ≡ declared_names all.now.them.now kind }
+    ensures { IfOk result (λ found. IfSome found (λ name. find (is_on_cycle all.now.them.now kind) names.now ≡ Some name.now)) }
 {
     let places = base_places(alloc, all, kind, names)?;
     let numbers = reach_counts(alloc, places.as_slice())?;
@@ -39,12 +40,12 @@ pub fn shown_cycle<'a>(
 // Whether no base's number is above its name's.
 fn do_keep_down(
     alloc: Global,
-    all: &[Declaration],
+    all: &Declared<'_>,
     kind: Kind,
     names: &[Text],
     numbers: &[usize],
 ) -> Result<bool, NoMemory>
-    ensures { IfOk result (λ so. so ≡ do_keep_down all.now kind names.now numbers.now names.now) }
+    ensures { IfOk result (λ so. so ≡ do_keep_down all.now.them.now kind names.now numbers.now names.now) }
 {
     for name in names {
         if !keeps_down(
@@ -87,15 +88,15 @@ fn is_at_most(number: Option<usize>, other: Option<usize>) -> bool
 #[tactic(auto, using(crate::proofs::CircleLaws::not_on_cycle))]
 fn falls(
     alloc: Global,
-    all: &[Declaration],
+    all: &Declared<'_>,
     kind: Kind,
     names: &[Text],
     numbers: &[usize],
     name: &Text,
 ) -> Result<bool, NoMemory>
-    requires names { names.now ≡ declared_names all.now kind }
-    requires down { do_keep_down all.now kind names.now numbers.now names.now ≡ true }
-    ensures { IfOk result (λ so. so ≡ true → is_on_cycle all.now kind name.now ≡ false) }
+    requires names { names.now ≡ declared_names all.now.them.now kind }
+    requires down { do_keep_down all.now.them.now kind names.now numbers.now names.now ≡ true }
+    ensures { IfOk result (λ so. so ≡ true → is_on_cycle all.now.them.now kind name.now ≡ false) }
 {
     if !is_among(name, names) {
         return Ok(false);
@@ -112,14 +113,14 @@ fn falls(
 #[tactic(auto, using(crate::proofs::CircleLaws::on_cycle))]
 fn turns(
     alloc: Global,
-    all: &[Declaration],
+    all: &Declared<'_>,
     kind: Kind,
     names: &[Text],
     places: &[Vec<usize>],
     name: &Text,
 ) -> Result<bool, NoMemory>
-    requires { names.now ≡ declared_names all.now kind }
-    ensures { IfOk result (λ so. so ≡ true → is_on_cycle all.now kind name.now ≡ true) }
+    requires { names.now ≡ declared_names all.now.them.now kind }
+    ensures { IfOk result (λ so. so ≡ true → is_on_cycle all.now.them.now kind name.now ≡ true) }
 {
     if !is_among(name, names) {
         return Ok(false);
@@ -130,15 +131,15 @@ fn turns(
 
 fn leads(
     alloc: Global,
-    all: &[Declaration],
+    all: &Declared<'_>,
     kind: Kind,
     names: &[Text],
     path: &[Text],
     from: &Text,
     to: &Text,
 ) -> Result<bool, NoMemory>
-    requires { names.now ≡ declared_names all.now kind }
-    ensures { IfOk result (λ so. so ≡ leads all.now kind path.now from.now to.now) }
+    requires { names.now ≡ declared_names all.now.them.now kind }
+    ensures { IfOk result (λ so. so ≡ leads all.now.them.now kind path.now from.now to.now) }
 {
     let mut at = from;
     for step in path {

@@ -1,8 +1,12 @@
-ghost use Rattle.std.specs.Prelude.{◌≡◌, ◌&&◌, IfOk, map, option_map, not};
+ghost use Rattle.std.specs.Prelude.{◌≡◌, ◌<◌, ◌+◌, ◌++◌, ◌&&◌, IfOk, OnOk, length, map, option_map, not};
 ghost use Rattle.std.specs.List.{flat_map, filter, list_any};
 ghost use Rattle.lk_params.specs.Parameters.{is_named, items_of};
-ghost use Rattle.lk_merge.specs.Objects.{may_extend, lists_bases, listed_bases, extends_in, extends_of, kept, handed_on, declares, refines_it, is_declared, declaration_of, own, bases_of, handed_within, contributors};
+ghost use Rattle.lk_merge.specs.Objects.{may_extend, lists_bases, listed_bases, extends_in, extends_of, kept, handed_on, declares, is_declared, declaration_of, bases_of, handed_within, contributors};
+ghost use Rattle.lk_merge.specs.Walking.{handed_at, handed_back, visits, visits_of};
+ghost use Rattle.lk_val.specs.Texts.{is_same_text};
+ghost use Rattle.lk_params.specs.Picking.{firsts};
 
+use crate::by_name::Declared;
 use crate::declaration::{Declaration, Kind};
 use lk_params::{copy_item, firsts, joined, parameters_of, words};
 use lk_read::Item;
@@ -32,50 +36,30 @@ pub fn declaration_of<'a>(
     None
 }
 
-/// The declaration of an object and then its refinements, in order of reading.
-pub fn own<'a>(
-    alloc: Global,
-    all: &'a [Declaration],
-    kind: Kind,
-    name: &Text,
-) -> Result<Vec<&'a Declaration>, NoMemory>
-    ensures { IfOk result (λ ds. map (λ d. d.now) ds.items ≡ own all.now kind name.now) }
-{
-    let mut ds = Vec::new(alloc);
-    if let Some(d) = declaration_of(all, kind, name) {
-        ds.push(d)?;
-    }
-    for d in all {
-        if refines_it(kind, name, d) {
-            ds.push(d)?;
-        }
-    }
-    Ok(ds)
-}
-
 fn declares(kind: Kind, name: &Text, d: &Declaration) -> bool
     ensures { result ≡ declares kind name.now d.now }
 {
     !d.refines && d.kind == kind && d.name == *name
 }
 
-fn refines_it(kind: Kind, name: &Text, d: &Declaration) -> bool
-    ensures { result ≡ refines_it kind name.now d.now }
-{
-    d.refines && d.kind == kind && d.name == *name
-}
-
 /// The bases of an object, each once, in order.
 pub fn bases_of(
     alloc: Global,
-    all: &[Declaration],
+    all: &Declared<'_>,
     kind: Kind,
     name: &Text,
 ) -> Result<Items<Text>, NoMemory>
-    ensures { IfOk result (λ bases. bases ≡ bases_of all.now kind name.now) }
+    ensures { IfOk result (λ bases. bases ≡ bases_of all.now.them.now kind name.now) }
 {
-    let own = own(alloc, all, kind, name)?;
-    firsts(alloc, all_bases(alloc, own.as_slice())?.as_slice())
+    let own = all.own(alloc, kind, name)?;
+    bases_among(alloc, own.as_slice())
+}
+
+fn bases_among(alloc: Global, own: &[&Declaration]) -> Result<Items<Text>, NoMemory>
+    ensures { IfOk result (λ bases.
+        bases ≡ firsts is_same_text (flat_map extends_of (map (λ d. d.now) own.now))) }
+{
+    firsts(alloc, all_bases(alloc, own)?.as_slice())
 }
 
 fn all_bases(alloc: Global, own: &[&Declaration]) -> Result<Items<Text>, NoMemory>
@@ -157,19 +141,20 @@ pub fn handed_on(alloc: Global, d: &Declaration) -> Result<Items<Item>, NoMemory
 /// The contributors of an object, as their parameters.
 pub fn contributors(
     alloc: Global,
-    all: &[Declaration],
+    all: &Declared<'_>,
     kind: Kind,
     name: &Text,
 ) -> Result<Items<Items<Item>>, NoMemory>
-    ensures { IfOk result (λ blocks. blocks ≡ contributors all.now kind name.now) }
+    ensures { IfOk result (λ blocks. blocks ≡ contributors all.now.them.now kind name.now) }
 {
     let bases = bases_of(alloc, all, kind, name)?;
-    let inherited = handed_by_each(alloc, all, kind, all.len(), bases.as_slice())?;
-    let own = own(alloc, all, kind, name)?;
+    let inherited = handed_by_each(alloc, all, kind, bases)?;
+    let own = all.own(alloc, kind, name)?;
     joined(inherited, kept_by_each(alloc, own.as_slice())?)
 }
 
-fn kept_by_each(alloc: Global, own: &[&Declaration]) -> Result<Items<Items<Item>>, NoMemory>
+/// What some declarations give to their own object.
+pub fn kept_by_each(alloc: Global, own: &[&Declaration]) -> Result<Items<Items<Item>>, NoMemory>
     ensures { IfOk result (λ blocks. blocks ≡ map kept (map (λ d. d.now) own.now)) }
 {
     let mut blocks = Items::new(alloc);
@@ -179,7 +164,11 @@ fn kept_by_each(alloc: Global, own: &[&Declaration]) -> Result<Items<Items<Item>
     Ok(blocks)
 }
 
-fn handed_on_by_each(alloc: Global, own: &[&Declaration]) -> Result<Items<Items<Item>>, NoMemory>
+/// What some declarations give to an object that extends theirs.
+pub fn handed_on_by_each(
+    alloc: Global,
+    own: &[&Declaration],
+) -> Result<Items<Items<Item>>, NoMemory>
     ensures { IfOk result (λ blocks. blocks ≡ map handed_on (map (λ d. d.now) own.now)) }
 {
     let mut blocks = Items::new(alloc);
@@ -189,39 +178,102 @@ fn handed_on_by_each(alloc: Global, own: &[&Declaration]) -> Result<Items<Items<
     Ok(blocks)
 }
 
-// What each of some objects gives to those that extend it, along chains of bases of at most this length.
-#[cycle(handed)]
+// What each of some objects gives to those that extend it.
 fn handed_by_each(
     alloc: Global,
-    all: &[Declaration],
+    all: &Declared<'_>,
     kind: Kind,
-    depth: usize,
-    names: &[Text],
+    names: Items<Text>,
 ) -> Result<Items<Items<Item>>, NoMemory>
-    ensures { IfOk result (λ blocks. blocks ≡ flat_map (handed_within all.now kind depth) names.now) }
+    ensures { IfOk result (λ blocks.
+        blocks ≡ flat_map (handed_within all.now.them.now kind (length all.now.them.now)) names) }
+{
+    let depth = all.as_slice().len();
+    let inherited = inherited(alloc, all, kind, depth, names)?;
+    blocks_backwards(alloc, inherited.as_slice())
+}
+
+fn blocks_backwards(alloc: Global, ds: &[&Declaration]) -> Result<Items<Items<Item>>, NoMemory>
+    ensures { IfOk result (λ blocks. blocks ≡ handed_back ds.now) }
 {
     let mut blocks = Items::new(alloc);
-    for name in names {
-        blocks = joined(blocks, handed_within(alloc, all, kind, depth, name)?)?;
+    for place in (0..ds.len()).rev() {
+        blocks.push(handed_on(alloc, ds[place])?)?;
     }
     Ok(blocks)
 }
 
-#[cycle(handed)]
-fn handed_within(
+// The declarations and refinements of some objects and of those under them, along chains of bases of at most this length,
+// the last one first. The objects that are left wait on a stack, since a chain may be longer than calls can be deep.
+fn inherited<'a>(
     alloc: Global,
-    all: &[Declaration],
+    all: &Declared<'a>,
     kind: Kind,
     depth: usize,
-    name: &Text,
-) -> Result<Items<Items<Item>>, NoMemory>
-    ensures { IfOk result (λ blocks. blocks ≡ handed_within all.now kind depth name.now) }
+    names: Items<Text>,
+) -> Result<Vec<&'a Declaration>, NoMemory>
+    ensures { IfOk result (λ ds.
+        handed_back ds.items ≡ flat_map (handed_within all.now.them.now kind depth) names) }
 {
-    if depth == 0 {
-        return Ok(Items::new(alloc));
+    let mut found = Vec::new(alloc);
+    let mut todo = Vec::new(alloc);
+    add_waiting(alloc, &mut todo, depth, names.as_slice())?;
+    while let Some((left, name)) = todo.pop() {
+        visit(alloc, all, kind, left, &name, &mut todo, &mut found)?;
     }
-    let bases = bases_of(alloc, all, kind, name)?;
-    let inherited = handed_by_each(alloc, all, kind, depth - 1, bases.as_slice())?;
-    let own = own(alloc, all, kind, name)?;
-    joined(inherited, handed_on_by_each(alloc, own.as_slice())?)
+    Ok(found)
+}
+
+// Adds what an object has of its own, and lets its bases wait.
+fn visit<'a>(
+    alloc: Global,
+    all: &Declared<'a>,
+    kind: Kind,
+    left: usize,
+    name: &Text,
+    todo: &mut Vec<(usize, Text)>,
+    found: &mut Vec<&'a Declaration>,
+) -> Result<(), NoMemory>
+    ensures handed { OnOk result (
+        flat_map (handed_at all.now.them.now kind) todo.new.items ++ handed_back found.new.items
+        ≡ flat_map (handed_at all.now.them.now kind) todo.old.items ++ handed_within all.now.them.now kind left name.now
+        ++ handed_back found.old.items) }
+    ensures fewer { OnOk result (visits_of all.now.them.now kind todo.new.items
+        < visits_of all.now.them.now kind todo.old.items + visits all.now.them.now kind left name.now) }
+{
+    if left == 0 {
+        return Ok(());
+    }
+    let own = all.own(alloc, kind, name)?;
+    add_backwards(found, own.as_slice())?;
+    let bases = bases_among(alloc, own.as_slice())?;
+    add_waiting(alloc, todo, left - 1, bases.as_slice())?;
+    Ok(())
+}
+
+fn add_backwards<'a>(
+    found: &mut Vec<&'a Declaration>,
+    ds: &[&'a Declaration],
+) -> Result<(), NoMemory>
+    ensures { OnOk result (handed_back found.new.items
+        ≡ map handed_on (map (λ d. d.now) ds.now) ++ handed_back found.old.items) }
+{
+    for place in (0..ds.len()).rev() {
+        found.push(ds[place])?;
+    }
+    Ok(())
+}
+
+fn add_waiting(
+    alloc: Global,
+    todo: &mut Vec<(usize, Text)>,
+    left: usize,
+    names: &[Text],
+) -> Result<(), NoMemory>
+    ensures { OnOk result (todo.new.items ≡ todo.old.items ++ map (λ name. (left, name)) names.now) }
+{
+    for name in names {
+        todo.push((left, name.copy(alloc)?))?;
+    }
+    Ok(())
 }

@@ -5,9 +5,10 @@ ghost use Rattle.lk_val.specs.Least.{is_in, grown, grown_times};
 ghost use Rattle.lk_merge.specs.Objects.{bases_of, declaration_of, declared_names};
 ghost use Rattle.lk_merge.specs.MergeFaults.{reaches, reached, is_on_cycle, cycle_line, extends_itself};
 
+use crate::by_name::Declared;
 use crate::circles::shown_cycle;
 use crate::contributors::{bases_of, declaration_of};
-use crate::declaration::{Declaration, Kind};
+use crate::declaration::Kind;
 use crate::faults::fault_at;
 use crate::names::declared_names;
 use crate::ranks::{do_descend, ranks};
@@ -18,19 +19,19 @@ use std::alloc::Global;
 #[tactic(auto, using(crate::proofs::RankLaws::none_extends_itself))]
 pub fn find_cycle(
     alloc: Global,
-    all: &[Declaration],
+    all: &Declared<'_>,
     kind: Kind,
 ) -> Result<Option<FaultLine>, NoMemory>
-    ensures { IfOk result (λ fault. fault ≡ extends_itself all.now kind) }
+    ensures { IfOk result (λ fault. fault ≡ extends_itself all.now.them.now kind) }
 {
-    let names = declared_names(alloc, all, kind)?;
+    let names = declared_names(alloc, all.as_slice(), kind)?;
     let ranks = ranks(alloc, all, kind, names.as_slice())?;
     if do_descend(alloc, all, kind, names.as_slice(), ranks.as_slice())? {
         return Ok(None);
     }
     match least_on_cycle(alloc, all, kind, names.as_slice())? {
         None => Ok(None),
-        Some(name) => match declaration_of(all, kind, name) {
+        Some(name) => match declaration_of(all.as_slice(), kind, name) {
             None => Ok(None),
             Some(d) => Ok(Some(fault_at(alloc, "M3", "", d)?)),
         },
@@ -39,12 +40,12 @@ pub fn find_cycle(
 
 fn least_on_cycle<'a>(
     alloc: Global,
-    all: &[Declaration],
+    all: &Declared<'_>,
     kind: Kind,
     names: &'a [Text],
 ) -> Result<Option<&'a Text>, NoMemory>
-    requires { names.now ≡ declared_names all.now kind }
-    ensures { IfOk result (λ name. option_map (λ n. n.now) name ≡ find (is_on_cycle all.now kind) names.now) }
+    requires { names.now ≡ declared_names all.now.them.now kind }
+    ensures { IfOk result (λ name. option_map (λ n. n.now) name ≡ find (is_on_cycle all.now.them.now kind) names.now) }
 {
     if let Some(name) = shown_cycle(alloc, all, kind, names)? {
         return Ok(Some(name));
@@ -55,12 +56,12 @@ fn least_on_cycle<'a>(
 // The same by the sets themselves, which takes long.
 fn name_on_cycle<'a>(
     alloc: Global,
-    all: &[Declaration],
+    all: &Declared<'_>,
     kind: Kind,
     names: &'a [Text],
 ) -> Result<Option<&'a Text>, NoMemory>
-    requires { names.now ≡ declared_names all.now kind }
-    ensures { IfOk result (λ name. option_map (λ n. n.now) name ≡ find (is_on_cycle all.now kind) names.now) }
+    requires { names.now ≡ declared_names all.now.them.now kind }
+    ensures { IfOk result (λ name. option_map (λ n. n.now) name ≡ find (is_on_cycle all.now.them.now kind) names.now) }
 {
     for name in names {
         if is_among(name, reached(alloc, all, kind, name, names)?.as_slice()) {
@@ -73,13 +74,13 @@ fn name_on_cycle<'a>(
 // The objects that an object reaches by extending, round by round.
 fn reached(
     alloc: Global,
-    all: &[Declaration],
+    all: &Declared<'_>,
     kind: Kind,
     name: &Text,
     names: &[Text],
 ) -> Result<Items<Text>, NoMemory>
-    requires { names.now ≡ declared_names all.now kind }
-    ensures { IfOk result (λ set. set ≡ reached all.now kind name.now) }
+    requires { names.now ≡ declared_names all.now.them.now kind }
+    ensures { IfOk result (λ set. set ≡ reached all.now.them.now kind name.now) }
 {
     let mut set = Items::new(alloc);
     for round in 0..names.len() {
@@ -90,13 +91,13 @@ fn reached(
 
 fn grown(
     alloc: Global,
-    all: &[Declaration],
+    all: &Declared<'_>,
     kind: Kind,
     name: &Text,
     names: &[Text],
     set: &[Text],
 ) -> Result<Items<Text>, NoMemory>
-    ensures { IfOk result (λ more. more ≡ grown is_same_text names.now (reaches all.now kind name.now) set.now) }
+    ensures { IfOk result (λ more. more ≡ grown is_same_text names.now (reaches all.now.them.now kind name.now) set.now) }
 {
     let mut more = Items::new(alloc);
     for base in names {
@@ -109,13 +110,13 @@ fn grown(
 
 fn reaches(
     alloc: Global,
-    all: &[Declaration],
+    all: &Declared<'_>,
     kind: Kind,
     name: &Text,
     set: &[Text],
     base: &Text,
 ) -> Result<bool, NoMemory>
-    ensures { IfOk result (λ r. r ≡ reaches all.now kind name.now set.now base.now) }
+    ensures { IfOk result (λ r. r ≡ reaches all.now.them.now kind name.now set.now base.now) }
 {
     if is_among(base, bases_of(alloc, all, kind, name)?.as_slice()) {
         return Ok(true);
@@ -125,13 +126,13 @@ fn reaches(
 
 fn is_base_of_any(
     alloc: Global,
-    all: &[Declaration],
+    all: &Declared<'_>,
     kind: Kind,
     set: &[Text],
     base: &Text,
 ) -> Result<bool, NoMemory>
     ensures { IfOk result (λ r.
-        r ≡ list_any (λ from. is_in is_same_text base.now (bases_of all.now kind from)) set.now) }
+        r ≡ list_any (λ from. is_in is_same_text base.now (bases_of all.now.them.now kind from)) set.now) }
 {
     for from in set {
         if is_among(base, bases_of(alloc, all, kind, from)?.as_slice()) {

@@ -2,6 +2,7 @@ ghost use Rattle.std.specs.Prelude.{◌≡◌, [], IfOk, codes};
 ghost use Rattle.lk_params.specs.Picking.{first_in, first_along};
 ghost use Rattle.lk_merge.specs.MergeFaults.{fault_at, declared_twice, refines_final, unknown_base, refers_nowhere};
 
+use crate::by_name::Declared;
 use crate::contributors::{extends_of, is_declared};
 use crate::declaration::{Declaration, Kind};
 use crate::objects::is_final;
@@ -22,12 +23,12 @@ pub fn find_twice(alloc: Global, all: &[Declaration]) -> Result<Option<FaultLine
 }
 
 /// The first refinement of an object that is final.
-pub fn find_final(alloc: Global, all: &[Declaration]) -> Result<Option<FaultLine>, NoMemory>
-    ensures { IfOk result (λ fault. fault ≡ first_in (refines_final all.now) all.now) }
+pub fn find_final(alloc: Global, all: &Declared<'_>) -> Result<Option<FaultLine>, NoMemory>
+    ensures { IfOk result (λ fault. fault ≡ first_in (refines_final all.now.them.now) all.now.them.now) }
 {
-    for d in all {
+    for d in all.as_slice() {
         if d.refines
-            && is_declared(all, d.kind, &d.name)
+            && is_declared(all.as_slice(), d.kind, &d.name)
             && is_final(alloc, all, d.kind, &d.name)?
         {
             return Ok(Some(fault_at(alloc, "M5", "", d)?));

@@ -1,10 +1,12 @@
 ghost use Rattle.std.specs.Prelude.{◌≡◌, ◌∷◌, [], IfOk, map};
-ghost use Rattle.std.specs.List.{flat_map, fold, list_any};
+ghost use Rattle.std.specs.List.{flat_map, fold};
 ghost use Rattle.lk_params.specs.Picking.{last_given, with_new};
+ghost use Rattle.lk_merge.specs.Grouped.{all_of, last_number, of_last, of_number, read};
 ghost use Rattle.lk_merge.specs.Overlay.{is_same_slot, slot_of, in_slot, inner_of, with_inner, merged_child, filled, slots_in, merged};
 
 use crate::declaration::Kind;
-use crate::slot::{Slot, is_in_slot, is_same_slot, slot_of};
+use crate::grouped::{Grouped, KnownSlots};
+use crate::slot::{Slot, slot_of};
 use lk_params::{copy_item, copy_items, copy_title, copy_value, joined, overlaid};
 use lk_read::{Item, Node, Tree};
 use lk_val::{Items, NoMemory};
@@ -15,28 +17,21 @@ pub fn merged(alloc: Global, kind: Kind, blocks: &[Items<Item>]) -> Result<Items
     ensures { IfOk result (λ items. items ≡ merged kind blocks.now) }
 {
     let slots = slots_in(alloc, kind, blocks)?;
+    let grouped = Grouped::new(alloc, kind, blocks)?;
     let mut items = Items::new(alloc);
     for slot in slots.as_slice() {
-        items = joined(items, filled(alloc, kind, blocks, slot)?)?;
+        items = joined(items, filled(alloc, &grouped, slot)?)?;
     }
     Ok(items)
 }
 
 // What stands in a slot.
-fn filled(
-    alloc: Global,
-    kind: Kind,
-    blocks: &[Items<Item>],
-    slot: &Slot,
-) -> Result<Items<Item>, NoMemory>
-    ensures { IfOk result (λ items. items ≡ filled kind blocks.now slot.now) }
+fn filled(alloc: Global, grouped: &Grouped<'_>, slot: &Slot) -> Result<Items<Item>, NoMemory>
+    ensures { IfOk result (λ items. items ≡ filled grouped.now.kind grouped.now.blocks.now slot.now) }
 {
     match slot {
-        Slot::Parameter(_) => last_in_slot(alloc, kind, slot, blocks),
-        Slot::Child(_, _) => merged_child(
-            alloc,
-            all_in_slot(alloc, kind, slot, blocks)?.as_slice(),
-        ),
+        Slot::Parameter(_) => last_in_slot(alloc, grouped, slot),
+        Slot::Child(_, _) => merged_child(alloc, all_in_slot(alloc, grouped, slot)?.as_slice()),
         Slot::Alone(item) => one(alloc, copy_item(alloc, item)?),
     }
 }
@@ -50,51 +45,68 @@ fn one(alloc: Global, item: Item) -> Result<Items<Item>, NoMemory>
 }
 
 // The parameters that go to a slot, in the last block that has some.
-#[tactic(auto, using(lk_params::proofs::Steps::or_list_assoc))]
-fn last_in_slot(
-    alloc: Global,
-    kind: Kind,
-    slot: &Slot,
-    blocks: &[Items<Item>],
-) -> Result<Items<Item>, NoMemory>
-    ensures { IfOk result (λ items. items ≡ last_given (map (in_slot kind slot.now) blocks.now)) }
+#[tactic(auto, using(crate::proofs::GroupLaws::last_numbered))]
+fn last_in_slot(alloc: Global, grouped: &Grouped<'_>, slot: &Slot) -> Result<Items<Item>, NoMemory>
+    ensures { IfOk result (λ items.
+        items ≡ last_given (map (in_slot grouped.now.kind slot.now) grouped.now.blocks.now)) }
 {
-    let mut last = Items::new(alloc);
-    for block in blocks {
-        let items = in_slot(alloc, kind, slot, block.as_slice())?;
-        if !items.is_empty() {
-            last = items;
+    let found = grouped.found(alloc, slot)?;
+    of_last(alloc, found.as_slice())
+}
+
+// Those of the last block.
+fn of_last(alloc: Global, found: &[(usize, &Item)]) -> Result<Items<Item>, NoMemory>
+    ensures { IfOk result (λ items. items ≡ of_last (map read found.now)) }
+{
+    match last_number(found) {
+        None => Ok(Items::new(alloc)),
+        Some(number) => of_number(alloc, number, found),
+    }
+}
+
+fn last_number(found: &[(usize, &Item)]) -> Option<usize>
+    ensures { result ≡ last_number (map read found.now) }
+{
+    let mut last = None;
+    for entry in found {
+        last = Some(entry.0);
+    }
+    last
+}
+
+fn of_number(
+    alloc: Global,
+    number: usize,
+    found: &[(usize, &Item)],
+) -> Result<Items<Item>, NoMemory>
+    ensures { IfOk result (λ items. items ≡ of_number number (map read found.now)) }
+{
+    let mut items = Items::new(alloc);
+    for entry in found {
+        if entry.0 == number {
+            items.push(copy_item(alloc, entry.1)?)?;
         }
     }
-    Ok(last)
+    Ok(items)
 }
 
 // The parameters of all blocks that go to a slot, in order.
-fn all_in_slot(
-    alloc: Global,
-    kind: Kind,
-    slot: &Slot,
-    blocks: &[Items<Item>],
-) -> Result<Items<Item>, NoMemory>
-    ensures { IfOk result (λ items. items ≡ flat_map (in_slot kind slot.now) blocks.now) }
+#[tactic(auto, using(crate::proofs::GroupLaws::all_numbered))]
+fn all_in_slot(alloc: Global, grouped: &Grouped<'_>, slot: &Slot) -> Result<Items<Item>, NoMemory>
+    ensures { IfOk result (λ items. items ≡ flat_map (in_slot grouped.now.kind slot.now) grouped.now.blocks.now) }
 {
-    let mut all = Items::new(alloc);
-    for block in blocks {
-        all = joined(all, in_slot(alloc, kind, slot, block.as_slice())?)?;
-    }
-    Ok(all)
+    let found = grouped.found(alloc, slot)?;
+    all_of(alloc, found.as_slice())
 }
 
-fn in_slot(alloc: Global, kind: Kind, slot: &Slot, items: &[Item]) -> Result<Items<Item>, NoMemory>
-    ensures { IfOk result (λ found. found ≡ in_slot kind slot.now items.now) }
+fn all_of(alloc: Global, found: &[(usize, &Item)]) -> Result<Items<Item>, NoMemory>
+    ensures { IfOk result (λ items. items ≡ all_of (map read found.now)) }
 {
-    let mut found = Items::new(alloc);
-    for item in items {
-        if is_in_slot(kind, slot, item) {
-            found.push(copy_item(alloc, item)?)?;
-        }
+    let mut items = Items::new(alloc);
+    for entry in found {
+        items.push(copy_item(alloc, entry.1)?)?;
     }
-    Ok(found)
+    Ok(items)
 }
 
 // Children of one name as one.
@@ -158,40 +170,24 @@ fn all_slots(alloc: Global, kind: Kind, blocks: &[Items<Item>]) -> Result<Items<
     ensures { IfOk result (λ slots.
         slots ≡ fold (with_new is_same_slot) [] (flat_map (map (slot_of kind)) blocks.now)) }
 {
-    let mut known = Items::new(alloc);
+    let mut known = KnownSlots::new(alloc);
     for block in blocks {
         known = with_slots(alloc, kind, known, block.as_slice())?;
     }
-    Ok(known)
+    Ok(known.into_slots())
 }
 
 fn with_slots(
     alloc: Global,
     kind: Kind,
-    known: Items<Slot>,
+    known: KnownSlots,
     items: &[Item],
-) -> Result<Items<Slot>, NoMemory>
-    ensures { IfOk result (λ with. with ≡ fold (with_new is_same_slot) known (map (slot_of kind) items.now)) }
+) -> Result<KnownSlots, NoMemory>
+    ensures { IfOk result (λ with. with.slots ≡ fold (with_new is_same_slot) known.slots (map (slot_of kind) items.now)) }
 {
     let mut known = known;
     for item in items {
-        known = with_slot(known, slot_of(alloc, kind, item)?)?;
+        known = known.with(alloc, slot_of(alloc, kind, item)?)?;
     }
     Ok(known)
-}
-
-fn with_slot(known: Items<Slot>, slot: Slot) -> Result<Items<Slot>, NoMemory>
-    ensures { IfOk result (λ with. with ≡ with_new is_same_slot known slot) }
-{
-    let mut known = known;
-    if !is_slot_among(&slot, known.as_slice()) {
-        known.push(slot)?;
-    }
-    Ok(known)
-}
-
-fn is_slot_among(slot: &Slot, known: &[Slot]) -> bool
-    ensures { result ≡ list_any (is_same_slot slot.now) known.now }
-{
-    known.iter().any(|other| is_same_slot(slot, other))
 }

@@ -4,26 +4,30 @@ ghost use Rattle.std.specs.Option.{option_or};
 ghost use Rattle.lk_params.specs.Parameters.{items_of, last_named};
 ghost use Rattle.lk_merge.specs.Objects.{may_extend, lists_bases, extends_in, last_text, option_list, is_wrong, if_several, is_required, is_final, is_text, wrong_extends, object_with, objects, declaration_of, declared_names};
 ghost use Rattle.lk_params.specs.Picking.{last_given};
+ghost use Rattle.lk_merge.specs.Rows.{HasRows, row_of};
 
-use crate::contributors::{contributors, declaration_of, lists_bases, may_extend, own};
+use crate::by_name::Declared;
+use crate::contributors::{declaration_of, lists_bases, may_extend};
 use crate::declaration::{Declaration, Kind};
-use crate::merging::merged;
 use crate::names::declared_names;
 use crate::project::Object;
+use crate::rows::{handed_rows, items_of};
 use lk_params::{copy_item, joined, last_named, parameters_of, scalar, words};
 use lk_read::{Item, Tree};
 use lk_val::{Items, NoMemory, Text};
 use std::alloc::Global;
+use std::collections::BTreeMap;
 
 /// The effective objects of a kind, by name, without those that are there only for others to extend.
-pub fn objects(alloc: Global, all: &[Declaration], kind: Kind) -> Result<Items<Object>, NoMemory>
-    ensures { IfOk result (λ made. made ≡ objects all.now kind) }
+pub fn objects(alloc: Global, all: &Declared<'_>, kind: Kind) -> Result<Items<Object>, NoMemory>
+    ensures { IfOk result (λ made. made ≡ objects all.now.them.now kind) }
 {
-    let names = declared_names(alloc, all, kind)?;
+    let names = declared_names(alloc, all.as_slice(), kind)?;
+    let rows = handed_rows(alloc, all, kind, names.as_slice())?;
     let mut made = Items::new(alloc);
     for name in names.as_slice() {
         if !is_required(alloc, all, kind, name)? {
-            made = joined(made, object_of(alloc, all, kind, name)?)?;
+            made = joined(made, object_of(alloc, all, kind, &rows, name)?)?;
         }
     }
     Ok(made)
@@ -31,35 +35,35 @@ pub fn objects(alloc: Global, all: &[Declaration], kind: Kind) -> Result<Items<O
 
 fn object_of(
     alloc: Global,
-    all: &[Declaration],
+    all: &Declared<'_>,
     kind: Kind,
+    rows: &BTreeMap<Text, Items<Item>>,
     name: &Text,
 ) -> Result<Items<Object>, NoMemory>
+    requires { HasRows (row_of all.now.them.now kind) rows.now }
     ensures { IfOk result (λ made.
-        made ≡ object_with all.now kind name.now (declaration_of all.now kind name.now)) }
+        made ≡ object_with all.now.them.now kind name.now (declaration_of all.now.them.now kind name.now)) }
 {
     let mut made = Items::new(alloc);
-    if let Some(d) = declaration_of(all, kind, name) {
-        made.push(object_with(alloc, all, kind, name, d)?)?;
+    if let Some(d) = declaration_of(all.as_slice(), kind, name) {
+        made.push(object_with(alloc, all, kind, rows, name, d)?)?;
     }
     Ok(made)
 }
 
 fn object_with(
     alloc: Global,
-    all: &[Declaration],
+    all: &Declared<'_>,
     kind: Kind,
+    rows: &BTreeMap<Text, Items<Item>>,
     name: &Text,
     d: &Declaration,
 ) -> Result<Object, NoMemory>
-    ensures { IfOk result (λ made. made ∷ [] ≡ object_with all.now kind name.now (Some d.now)) }
+    requires { HasRows (row_of all.now.them.now kind) rows.now }
+    ensures { IfOk result (λ made. made ∷ [] ≡ object_with all.now.them.now kind name.now (Some d.now)) }
 {
-    let items = merged(
-        alloc,
-        kind,
-        contributors(alloc, all, kind, name)?.as_slice(),
-    )?;
-    let own = own(alloc, all, kind, name)?;
+    let items = items_of(alloc, all, kind, rows, name)?;
+    let own = all.own(alloc, kind, name)?;
     let items = joined(items, wrong_extends(alloc, own.as_slice())?)?;
     Ok(Object {
         name: name.copy(alloc)?,
@@ -71,26 +75,26 @@ fn object_with(
 /// Whether an object is there only for others to extend.
 pub fn is_required(
     alloc: Global,
-    all: &[Declaration],
+    all: &Declared<'_>,
     kind: Kind,
     name: &Text,
 ) -> Result<bool, NoMemory>
-    ensures { IfOk result (λ r. r ≡ is_required all.now kind name.now) }
+    ensures { IfOk result (λ r. r ≡ is_required all.now.them.now kind name.now) }
 {
-    let own = own(alloc, all, kind, name)?;
+    let own = all.own(alloc, kind, name)?;
     Ok(may_extend(kind) && is_text("required", last_text("extension", own.as_slice())))
 }
 
 /// Whether an object may not be refined.
 pub fn is_final(
     alloc: Global,
-    all: &[Declaration],
+    all: &Declared<'_>,
     kind: Kind,
     name: &Text,
 ) -> Result<bool, NoMemory>
-    ensures { IfOk result (λ r. r ≡ is_final all.now kind name.now) }
+    ensures { IfOk result (λ r. r ≡ is_final all.now.them.now kind name.now) }
 {
-    let own = own(alloc, all, kind, name)?;
+    let own = all.own(alloc, kind, name)?;
     Ok(may_extend(kind) && is_text("yes", last_text("final", own.as_slice())))
 }
 

@@ -2,20 +2,21 @@ ghost use Rattle.std.specs.Prelude.{◌≡◌, IfOk};
 ghost use Rattle.lk_merge.specs.Objects.{bases_of};
 ghost use Rattle.lk_merge.specs.Ranks.{rank_in, is_below, descends, do_descend};
 
+use crate::by_name::Declared;
 use crate::contributors::bases_of;
-use crate::declaration::{Declaration, Kind};
+use crate::declaration::Kind;
 use lk_val::{NoMemory, Text};
 use std::alloc::Global;
 
 /// Whether each name's number is above those of its bases.
 pub fn do_descend(
     alloc: Global,
-    all: &[Declaration],
+    all: &Declared<'_>,
     kind: Kind,
     names: &[Text],
     ranks: &[usize],
 ) -> Result<bool, NoMemory>
-    ensures { IfOk result (λ so. so ≡ do_descend all.now kind names.now ranks.now names.now) }
+    ensures { IfOk result (λ so. so ≡ do_descend all.now.them.now kind names.now ranks.now names.now) }
 {
     for name in names {
         if !descends(
@@ -76,7 +77,7 @@ pub fn rank_in(names: &[Text], ranks: &[usize], name: &Text) -> Option<usize>
 /// say nothing.
 pub fn ranks(
     alloc: Global,
-    all: &[Declaration],
+    all: &Declared<'_>,
     kind: Kind,
     names: &[Text],
 ) -> Result<Vec<usize>, NoMemory> {
@@ -121,7 +122,7 @@ fn rank_above(ranks: &[usize], bases: &[usize]) -> usize {
 /// The places of each name's bases.
 pub fn base_places(
     alloc: Global,
-    all: &[Declaration],
+    all: &Declared<'_>,
     kind: Kind,
     names: &[Text],
 ) -> Result<Vec<Vec<usize>>, NoMemory> {

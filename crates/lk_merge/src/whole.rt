@@ -3,8 +3,9 @@ ghost use Rattle.lk_merge.specs.Declarations.{declarations};
 ghost use Rattle.lk_merge.specs.MergeFaults.{merge_fault};
 ghost use Rattle.lk_merge.specs.Merging.{IsTested, merged_of, fault_of};
 
+use crate::by_name::Declared;
 use crate::cycles::find_cycle;
-use crate::declaration::{Declaration, Kind, declarations};
+use crate::declaration::{Kind, declarations};
 use crate::faults::{find_final, find_nowhere, find_twice};
 use crate::objects::objects;
 use crate::project::Merged;
@@ -19,23 +20,24 @@ pub fn merge(alloc: Global, project: &Project) -> Result<Merged, ModelFault>
     ensures fault { IsTested result (fault_of project.now) }
     ensures ok { IfOk result (λ merged. merged ≡ merged_of project.now) }
 {
-    let all = declarations(alloc, project.trees.as_slice())?;
-    if let Some(line) = merge_fault(alloc, all.as_slice())? {
+    let declarations = declarations(alloc, project.trees.as_slice())?;
+    let all = Declared::new(alloc, declarations.as_slice())?;
+    if let Some(line) = merge_fault(alloc, &all)? {
         return Err(ModelFault::Fault(line));
     }
-    Ok(merged_of(alloc, project, all.as_slice())?)
+    Ok(merged_of(alloc, project, &all)?)
 }
 
-fn merge_fault(alloc: Global, all: &[Declaration]) -> Result<Option<FaultLine>, NoMemory>
-    ensures { IfOk result (λ fault. fault ≡ merge_fault all.now) }
+fn merge_fault(alloc: Global, all: &Declared<'_>) -> Result<Option<FaultLine>, NoMemory>
+    ensures { IfOk result (λ fault. fault ≡ merge_fault all.now.them.now) }
 {
-    if let Some(fault) = find_twice(alloc, all)? {
+    if let Some(fault) = find_twice(alloc, all.as_slice())? {
         return Ok(Some(fault));
     }
     if let Some(fault) = find_final(alloc, all)? {
         return Ok(Some(fault));
     }
-    if let Some(fault) = find_nowhere(alloc, all)? {
+    if let Some(fault) = find_nowhere(alloc, all.as_slice())? {
         return Ok(Some(fault));
     }
     if let Some(fault) = find_cycle(alloc, all, Kind::View)? {
@@ -44,8 +46,8 @@ fn merge_fault(alloc: Global, all: &[Declaration]) -> Result<Option<FaultLine>, 
     find_cycle(alloc, all, Kind::Explore)
 }
 
-fn merged_of(alloc: Global, project: &Project, all: &[Declaration]) -> Result<Merged, NoMemory>
-    requires { all.now ≡ declarations project.now.trees }
+fn merged_of(alloc: Global, project: &Project, all: &Declared<'_>) -> Result<Merged, NoMemory>
+    requires { all.now.them.now ≡ declarations project.now.trees }
     ensures { IfOk result (λ merged. merged ≡ merged_of project.now) }
 {
     Ok(Merged {

@@ -6,4 +6,4 @@ use Rattle.lk_merge.specs.Overlay.{is_same_slot, slot_of}
 use Rattle.lk_merge.proofs.merging.with_slots.Given as goal
 
 abbrev pub invariant-loop-item : goal.invariant-loop-item
-invariant-loop-item l = fold (with_new is_same_slot) l.known (map (slot_of l.kind) (drop l.item-index l.items)) ≡ fold (with_new is_same_slot) l.fn.known (map (slot_of l.kind) l.items)
+invariant-loop-item l = fold (with_new is_same_slot) l.known.slots (map (slot_of l.kind) (drop l.item-index l.items)) ≡ fold (with_new is_same_slot) l.fn.known.slots (map (slot_of l.kind) l.items)

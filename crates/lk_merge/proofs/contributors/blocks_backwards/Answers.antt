@@ -1,0 +1,13 @@
+use Rattle.std.proofs.Common.{◌≡◌, ◌∙◌, ◌+◌, ◌-◌, ◌<◌, length, arith}
+use Rattle.lk_merge.proofs.HandedLaws.{blocks_step}
+use Rattle.lk_merge.proofs.contributors.blocks_backwards.Goals as goal
+
+pub loop-place-preserved : goal.loop-place-preserved
+loop-place-preserved c =
+    let ds = c.args.ds.now in
+    let i = c.loop-place.place - 1 in
+    let next : i + 1 ≡ c.loop-place.place = omega arith in
+    let within : i < length ds = omega arith in
+    blocks_step ds i c.loop-place.place c.index-ds-place.result c.loop-place.blocks _ _
+    next within c.index-ds-place.is c.in_ok-handed_on.ensures c.in_ok-push.ensures.ok
+    ∙ c.loop-place.invariant
