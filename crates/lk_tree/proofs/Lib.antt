@@ -1,0 +1,4 @@
+pub mod ComponentLaws
+pub mod AskingLaws
+pub mod RoundLaws
+pub mod PartSetLaws
