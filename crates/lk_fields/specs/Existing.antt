@@ -1,6 +1,6 @@
 -- Which declared fields are fields of an explore, and which of them stand on cycles. (Looker, LookML reference: substitution operators; lookd)
 use Rattle.std.specs.Prelude.{ℕ, ◌+◌, ◌==◌, Bool, true, not, ◌&&◌, List, [], ◌∷◌, ◌++◌, map, Option, Some, None, slice_get}
-use Rattle.std.specs.List.{flat_map, list_any}
+use Rattle.std.specs.List.{flat_map, list_all, list_any}
 use Rattle.lk_val.specs.Least.{is_in, least_set}
 use Rattle.lk_objects.specs.declared.code.Code.{Code}
 use Rattle.lk_objects.specs.declared.code.Code.TheVariants as code
@@ -114,6 +114,18 @@ targets_with views scope part (Some field) = places_of (referred views scope par
 abbrev pub targets : List DeclaredView → Scope → Place → List Place
 targets views scope place = targets_with views scope place.part (field_at views scope place)
 
+-- all that a field refers to is in the set
+abbrev pub ends_after : List DeclaredView → Scope → List Place → Place → Bool
+ends_after views scope set place = list_all (λ target. is_in is_same_place target set) (targets views scope place)
+
+-- the fields whose references come to an end: the least set that has each one of which it has all targets
+abbrev pub ending : List DeclaredView → Scope → List Place
+ending views scope = least_set is_same_place (all_places views scope) (ends_after views scope)
+
+-- the field stands on a cycle of references or reaches one: its references come to no end
+abbrev pub reaches_cycle : List DeclaredView → Scope → Place → Bool
+reaches_cycle views scope place = not (is_in is_same_place place (ending views scope))
+
 -- a place is a target of a field, or of one of some
 abbrev pub is_target_of : List DeclaredView → Scope → List Place → Place → Bool
 is_target_of views scope fields place = list_any (λ from. is_in is_same_place place (targets views scope from)) fields
@@ -126,7 +138,3 @@ reached views scope place =
 -- the field reaches itself
 abbrev pub is_on_cycle : List DeclaredView → Scope → Place → Bool
 is_on_cycle views scope place = is_in is_same_place place (reached views scope place)
-
--- the field stands on a cycle or reaches one
-abbrev pub reaches_cycle : List DeclaredView → Scope → Place → Bool
-reaches_cycle views scope place = list_any (is_on_cycle views scope) (place ∷ reached views scope place)

@@ -1,8 +1,8 @@
 -- What each field of a scope names, by numbers, and the rounds by which fields are lost.
-use Rattle.std.specs.Prelude.{ℕ, zero, suc, ◌+◌, Bool, true, false, ◌||◌, List, [], ◌∷◌, ◌++◌, map, Option, Some, None, is_none, slice_index_or}
+use Rattle.std.specs.Prelude.{ℕ, zero, suc, ◌+◌, Bool, true, false, not, ◌||◌, ◌&&◌, List, [], ◌∷◌, ◌++◌, map, Option, Some, None, is_none, length, slice_index_or}
 use Rattle.std.specs.Bool.{beq}
 use Rattle.std.specs.Cmp.Lexicographic.{pointwise}
-use Rattle.std.specs.List.{list_any, position}
+use Rattle.std.specs.List.{list_all, list_any, position}
 use Rattle.std.specs.Option.{option_and_then}
 use Rattle.lk_objects.specs.declared.field.DeclaredField.{DeclaredField}
 use Rattle.lk_objects.specs.declared.view.DeclaredView.{DeclaredView}
@@ -10,7 +10,9 @@ use Rattle.lk_fields.specs.declared.scope.Found.{Found}
 use Rattle.lk_fields.specs.declared.scope.Place.{Place}
 use Rattle.lk_fields.specs.declared.scope.Scope.{Scope}
 use Rattle.lk_fields.specs.declared.rows.Row.{Row}
-use Rattle.lk_fields.specs.Existing.{field_at, is_same_place, named_by}
+use Rattle.lk_fields.specs.declared.rows.Rule.{Rule}
+use Rattle.lk_fields.specs.declared.rows.Rule.TheVariants as rule
+use Rattle.lk_fields.specs.Existing.{all_places, field_at, is_same_place, named_by, referred}
 
 -- the number of a place among all places
 abbrev pub number_of : List Place → Place → Option ℕ
@@ -29,45 +31,62 @@ abbrev pub numbers_in : List Place → List (Option Found) → List ℕ
 numbers_in all [] = []
 numbers_in all (name ∷ names) = option_list (number_named all name) ++ numbers_in all names
 
--- some name means no field
-abbrev pub lacks_one : List (Option Found) → Bool
-lacks_one found = list_any is_none found
+-- a name without which a field is lost, or that never ends: one that means no field, or one that is not among all
+abbrev pub is_lacking : Rule → List Place → Option Found → Bool
+is_lacking rule.Loses all name = is_none name
+is_lacking rule.Ends all None = false
+is_lacking rule.Ends all (Some f) = is_none (number_of all f.place)
 
-abbrev pub row_with : List Place → List (Option Found) → Row
-row_with all found = record { lacks = lacks_one found; names = numbers_in all found }
+-- what counts of a field: all that its text names, or what it refers to
+abbrev pub names_of : Rule → List DeclaredView → Scope → ℕ → DeclaredField → List (Option Found)
+names_of rule.Loses views scope part field = named_by views scope part field
+names_of rule.Ends views scope part field = referred views scope part field
 
--- a place without a field lacks what it names
-abbrev pub row_by : List DeclaredView → Scope → List Place → ℕ → Option DeclaredField → Row
-row_by views scope all part None = record { lacks = true; names = [] }
-row_by views scope all part (Some field) = row_with all (named_by views scope part field)
+abbrev pub row_with : Rule → List Place → List (Option Found) → Row
+row_with r all found = record { lacks = list_any (is_lacking r all) found; names = numbers_in all found }
 
-abbrev pub row_at : List DeclaredView → Scope → List Place → Place → Row
-row_at views scope all place = row_by views scope all place.part (field_at views scope place)
+-- a place without a field is lost, and refers to nothing
+abbrev pub no_row : Rule → Row
+no_row rule.Loses = record { lacks = true; names = [] }
+no_row rule.Ends = record { lacks = false; names = [] }
+
+abbrev pub row_by : Rule → List DeclaredView → Scope → List Place → ℕ → Option DeclaredField → Row
+row_by r views scope all part None = no_row r
+row_by r views scope all part (Some field) = row_with r all (names_of r views scope part field)
+
+abbrev pub row_at : Rule → List DeclaredView → Scope → List Place → Place → Row
+row_at r views scope all place = row_by r views scope all place.part (field_at views scope place)
 
 -- ---- rounds over marks, one for each field
 
 abbrev pub is_marked : List Bool → ℕ → Bool
 is_marked marks n = slice_index_or marks n false
 
--- a field that lacks a name, or names a marked field
-abbrev pub is_taken : List Bool → Row → Bool
-is_taken marks row = row.lacks || list_any (is_marked marks) row.names
+-- a field that lacks a name or names a marked field; or one that lacks none, and of which all names are marked
+abbrev pub is_taken : Rule → List Bool → Row → Bool
+is_taken rule.Loses marks row = row.lacks || list_any (is_marked marks) row.names
+is_taken rule.Ends marks row = not row.lacks && list_all (is_marked marks) row.names
 
 -- the marks after one more round, from a number on
-abbrev pub marks_from : List Bool → ℕ → List Row → List Bool
-marks_from marks n [] = []
-marks_from marks n (row ∷ rows) = (is_marked marks n || is_taken marks row) ∷ marks_from marks (n + 1) rows
+abbrev pub marks_from : Rule → List Bool → ℕ → List Row → List Bool
+marks_from r marks n [] = []
+marks_from r marks n (row ∷ rows) = (is_marked marks n || is_taken r marks row) ∷ marks_from r marks (n + 1) rows
 
-abbrev pub next_marks : List Row → List Bool → List Bool
-next_marks rows marks = marks_from marks 0 rows
+abbrev pub next_marks : Rule → List Row → List Bool → List Bool
+next_marks r rows marks = marks_from r marks 0 rows
 
 -- no field is marked
 abbrev pub no_marks : List Row → List Bool
 no_marks rows = map (λ row. false) rows
 
-abbrev pub marks_after : ℕ → List Row → List Bool
-marks_after zero rows = no_marks rows
-marks_after (suc n) rows = next_marks rows (marks_after n rows)
+abbrev pub marks_after : Rule → ℕ → List Row → List Bool
+marks_after r zero rows = no_marks rows
+marks_after r (suc n) rows = next_marks r rows (marks_after r n rows)
+
+-- the marks of all fields of a scope, after as many rounds as there are fields
+abbrev pub marks_of : Rule → List DeclaredView → Scope → List Bool
+marks_of r views scope =
+    let rows = map (row_at r views scope (all_places views scope)) (all_places views scope) in marks_after r (length rows) rows
 
 -- the marks are the same, one by one
 abbrev pub are_same : List Bool → List Bool → Bool

@@ -1,6 +1,10 @@
+ghost use Rattle.std.specs.Prelude.{◌≡◌, IfOk};
+ghost use Rattle.lk_fields.specs.Existing.{all_places};
+ghost use Rattle.lk_fields.specs.Rows.{marks_of};
+
 use crate::marks::{is_one_marked, last_marks};
 use crate::places::all_places;
-use crate::rows::{number_of, rows_of};
+use crate::rows::{Rule, number_of, rows_of};
 use crate::scope::{Place, Scope};
 use lk_objects::DeclaredView;
 use lk_val::{Items, NoMemory};
@@ -11,13 +15,14 @@ use std::alloc::Global;
 pub struct FieldSet {
     places: Items<Place>,
     lost: Items<bool>,
+    ending: Items<bool>,
 }
 
 impl FieldSet {
     ghost use Rattle.std.specs.Prelude.{◌≡◌, IfOk, List};
     ghost use Rattle.lk_objects.specs.declared.view.DeclaredView.{DeclaredView};
     ghost use Rattle.lk_fields.specs.declared.scope.Scope.{Scope};
-    ghost use Rattle.lk_fields.specs.Existing.{exists};
+    ghost use Rattle.lk_fields.specs.Existing.{exists, reaches_cycle};
     ghost use Rattle.lk_fields.specs.FieldSets.{IsSetOf};
 
     /// The fields of a scope, computed once for all questions about it.
@@ -25,9 +30,13 @@ impl FieldSet {
         ensures { IfOk result (IsSetOf views.now scope.now) }
     {
         let places = all_places(alloc, views, scope)?;
-        let rows = rows_of(alloc, views, scope, places.as_slice())?;
-        let lost = last_marks(alloc, rows.as_slice())?;
-        Ok(FieldSet { places, lost })
+        let lost = marks_by(alloc, Rule::Loses, views, scope, places.as_slice())?;
+        let ending = marks_by(alloc, Rule::Ends, views, scope, places.as_slice())?;
+        Ok(FieldSet {
+            places,
+            lost,
+            ending,
+        })
     }
 
     /// Whether a declared field is a field of the scope: all that its text names is there, and so on. (Looker, LookML
@@ -41,4 +50,29 @@ impl FieldSet {
             number_of(self.places.as_slice(), place),
         )
     }
+
+    /// Whether a declared field stands on a cycle of references or reaches one, so that its references come to no end.
+    pub fn reaches_cycle(&self, place: Place) -> bool
+        ensures { (views : List DeclaredView) (scope : Scope) → IsSetOf views scope self.now
+            → result ≡ reaches_cycle views scope place }
+    {
+        !is_one_marked(
+            self.ending.as_slice(),
+            number_of(self.places.as_slice(), place),
+        )
+    }
+}
+
+// The marks of all fields of a scope.
+fn marks_by(
+    alloc: Global,
+    rule: Rule,
+    views: &[DeclaredView],
+    scope: &Scope,
+    places: &[Place],
+) -> Result<Items<bool>, NoMemory>
+    ensures { places.now ≡ all_places views.now scope.now → IfOk result (λ marks. marks ≡ marks_of rule views.now scope.now) }
+{
+    let rows = rows_of(alloc, rule, views, scope, places)?;
+    last_marks(alloc, rule, rows.as_slice())
 }

@@ -1,18 +1,18 @@
 ghost use Rattle.std.specs.Prelude.{◌≡◌, ◌||◌, IfOk, length};
-ghost use Rattle.std.specs.List.{list_any};
+ghost use Rattle.std.specs.List.{list_all, list_any};
 ghost use Rattle.lk_fields.specs.Rows.{are_same, is_marked, is_taken, marks_after, marks_from, next_marks, no_marks, option_list};
 
-use crate::rows::Row;
+use crate::rows::{Row, Rule};
 use lk_val::{Items, NoMemory};
 use std::alloc::Global;
 
 // The marks of fields after as many rounds as there are fields; they end where a round marks nothing.
-pub(crate) fn last_marks(alloc: Global, rows: &[Row]) -> Result<Items<bool>, NoMemory>
-    ensures { IfOk result (λ marks. marks ≡ marks_after (length rows.now) rows.now) }
+pub(crate) fn last_marks(alloc: Global, rule: Rule, rows: &[Row]) -> Result<Items<bool>, NoMemory>
+    ensures { IfOk result (λ marks. marks ≡ marks_after rule (length rows.now) rows.now) }
 {
     let mut marks = no_marks(alloc, rows)?;
     for _round in 0..rows.len() {
-        let next = next_marks(alloc, rows, marks.as_slice())?;
+        let next = next_marks(alloc, rule, rows, marks.as_slice())?;
         if are_same(next.as_slice(), marks.as_slice()) {
             return Ok(marks);
         }
@@ -31,20 +31,25 @@ fn no_marks(alloc: Global, rows: &[Row]) -> Result<Items<bool>, NoMemory>
     Ok(marks)
 }
 
-fn next_marks(alloc: Global, rows: &[Row], marks: &[bool]) -> Result<Items<bool>, NoMemory>
-    ensures { IfOk result (λ next. next ≡ next_marks rows.now marks.now) }
+fn next_marks(
+    alloc: Global,
+    rule: Rule,
+    rows: &[Row],
+    marks: &[bool],
+) -> Result<Items<bool>, NoMemory>
+    ensures { IfOk result (λ next. next ≡ next_marks rule rows.now marks.now) }
 {
     let mut next = Items::new(alloc);
     for number in 0..rows.len() {
-        next.push(is_marked_after(marks, number, &rows[number]))?;
+        next.push(is_marked_after(rule, marks, number, &rows[number]))?;
     }
     Ok(next)
 }
 
-fn is_marked_after(marks: &[bool], number: usize, row: &Row) -> bool
-    ensures { result ≡ (is_marked marks.now number || is_taken marks.now row.now) }
+fn is_marked_after(rule: Rule, marks: &[bool], number: usize, row: &Row) -> bool
+    ensures { result ≡ (is_marked marks.now number || is_taken rule marks.now row.now) }
 {
-    is_marked(marks, number) || is_taken(marks, row)
+    is_marked(marks, number) || is_taken(rule, marks, row)
 }
 
 fn is_marked(marks: &[bool], number: usize) -> bool
@@ -56,13 +61,28 @@ fn is_marked(marks: &[bool], number: usize) -> bool
     }
 }
 
-fn is_taken(marks: &[bool], row: &Row) -> bool
-    ensures { result ≡ is_taken marks.now row.now }
+fn is_taken(rule: Rule, marks: &[bool], row: &Row) -> bool
+    ensures { result ≡ is_taken rule marks.now row.now }
 {
-    row.lacks || names_marked(marks, row.names.as_slice())
+    let names = row.names.as_slice();
+    match rule {
+        Rule::Loses => row.lacks || is_any_marked(marks, names),
+        Rule::Ends => !row.lacks && are_all_marked(marks, names),
+    }
 }
 
-fn names_marked(marks: &[bool], names: &[usize]) -> bool
+fn are_all_marked(marks: &[bool], names: &[usize]) -> bool
+    ensures { result ≡ list_all (is_marked marks.now) names.now }
+{
+    for number in names {
+        if !is_marked(marks, *number) {
+            return false;
+        }
+    }
+    true
+}
+
+fn is_any_marked(marks: &[bool], names: &[usize]) -> bool
     ensures { result ≡ list_any (is_marked marks.now) names.now }
 {
     for number in names {

@@ -1,6 +1,7 @@
 use Rattle.std.proofs.Common.{◌≡◌, drop}
-use Rattle.lk_fields.specs.Rows.{lacks_one}
+use Rattle.std.specs.List.{list_any}
+use Rattle.lk_fields.specs.Rows.{is_lacking}
 use Rattle.lk_fields.proofs.rows.lacks_one.Given as goal
 
 abbrev pub invariant-loop-name : goal.invariant-loop-name
-invariant-loop-name l = lacks_one (drop l.name-index l.found) ≡ lacks_one l.found
+invariant-loop-name l = list_any (is_lacking l.rule l.all) (drop l.name-index l.found) ≡ list_any (is_lacking l.rule l.all) l.found

@@ -1,7 +1,7 @@
 use Rattle.std.proofs.Common.{◌≡◌, drop}
 use Rattle.std.specs.List.{list_any}
 use Rattle.lk_fields.specs.Rows.{is_marked}
-use Rattle.lk_fields.proofs.marks.names_marked.Given as goal
+use Rattle.lk_fields.proofs.marks.is_any_marked.Given as goal
 
 abbrev pub invariant-loop-number : goal.invariant-loop-number
 invariant-loop-number l =

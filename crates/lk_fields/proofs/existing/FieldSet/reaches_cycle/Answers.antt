@@ -1,0 +1,14 @@
+use Rattle.std.proofs.Common.{◌≡◌, ◌∙◌, ap, not}
+use Rattle.std.specs.List.{list_any}
+use Rattle.lk_fields.specs.declared.rows.Rule.TheVariants.{Ends}
+use Rattle.lk_fields.specs.Rows.{is_marked, marks_of, number_of, option_list}
+use Rattle.lk_fields.proofs.LostLaws.{ending_marked}
+use Rattle.lk_fields.proofs.existing.FieldSet.reaches_cycle.Goals as goal
+
+pub returns : goal.returns
+returns c = λ views scope set. ap not
+    (c.is_one_marked.ensures
+    ∙ ap (λ n. list_any (is_marked c.as_slice.result.now) (option_list n)) c.number_of.ensures
+    ∙ ap (λ marks. list_any (is_marked marks) (option_list (number_of c.as_slice-2.result.now c.args.place))) (c.as_slice.ensures ∙ set.ending_are)
+    ∙ ap (λ all. list_any (is_marked (marks_of Ends views scope)) (option_list (number_of all c.args.place))) (c.as_slice-2.ensures ∙ set.places_are)
+    ∙ ending_marked views scope c.args.place)
