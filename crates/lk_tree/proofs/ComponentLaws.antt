@@ -1,10 +1,9 @@
 -- The measures of a calculation are those of its nodes, and each number is kept once.
-use Rattle.std.proofs.Common.{◌≡◌, ◌≤◌, ◌<◌, ℕ, zero, suc, ◌+◌, Some, drop, Bool, true, false, cond, not, ◌&&◌, ◌||◌, List, [], ◌∷◌, ◌++◌, length, refl, sym, ap, ◌∙◌, append_assoc, append-nil, arith, eq-eqb}
+use Rattle.std.proofs.Common.{◌≡◌, ◌≤◌, ◌<◌, ℕ, zero, suc, ◌+◌, Some, drop, Bool, true, false, cond, not, ◌&&◌, ◌||◌, List, [], ◌∷◌, ◌++◌, length, refl, sym, ap, ◌∙◌, append_assoc, append-nil, arith}
 use Rattle.std.specs.Prelude.{filter, flat_map, if◌then◌else◌, nat_eq, slice_index_or}
-use Rattle.std.specs.List.{list_any}
-use Rattle.std.proofs.lemmas.Bool.{false≢true, eqb-true}
+use Rattle.std.proofs.lemmas.Bool.{eqb-true}
 use Rattle.std.proofs.lemmas.List.Folds.{list_any-append}
-use Rattle.lk_postfix.specs.Postfix.{Builds, is_whole, gathered}
+use Rattle.lk_postfix.specs.Postfix.{is_whole, gathered}
 use Rattle.lk_postfix.proofs.PostfixLaws.{Builds-whole, gathered-Builds}
 use Rattle.lk_types.specs.Calculation.{Calculation, Coalesce, no_more}
 use Rattle.lk_types.specs.CalculationNodes.{arity, made, calculation_of, calculations_of, operand}

@@ -9,7 +9,7 @@ use Rattle.lk_val.specs.Least.{grown, grown_times}
 use Rattle.lk_types.specs.Expressions.{has_number}
 use Rattle.lk_types.specs.declared.explore.Explore.{Explore}
 use Rattle.lk_types.specs.declared.explore.Join.{Join}
-use Rattle.lk_semantics.specs.Joins.{brings_one_of, condition_of, is_asked, join_at, mentions_of, no_join, numbers_below}
+use Rattle.lk_semantics.specs.Joins.{brings_one_of, condition_of, is_asked, mentions_of, no_join, numbers_below}
 use Rattle.lk_tree.specs.Asking.{IsAsking, does_ask, is_asked_first}
 
 -- ---- rounds

@@ -1,4 +1,4 @@
-use Rattle.std.proofs.Common.{◌≡◌, ℕ, ◌∙◌, ◌||◌, Bool, List, ap, sym, true, false}
+use Rattle.std.proofs.Common.{ℕ, ◌∙◌, ◌||◌, Bool, List, ap, sym}
 use Rattle.std.specs.List.{list_any}
 use Rattle.lk_types.specs.Expressions.{has_number}
 use Rattle.lk_types.specs.declared.filter.Filter.{Filter}

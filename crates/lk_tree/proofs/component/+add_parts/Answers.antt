@@ -1,5 +1,5 @@
 use Rattle.std.proofs.Common.{◌≡◌, ℕ, suc, ◌-◌, ◌∙◌, ◌++◌, [], List, ap, sym, append-nil, drop, arith}
-use Rattle.std.specs.Prelude.{Some, flat_map, option_map}
+use Rattle.std.specs.Prelude.{flat_map, option_map}
 use Rattle.lk_semantics.specs.Answers.{parts_of_measure}
 use Rattle.lk_tree.proofs.ComponentLaws.{drop_past, parts_within}
 use Rattle.lk_tree.proofs.component.+add_parts.Goals as goal

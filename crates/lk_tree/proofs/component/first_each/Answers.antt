@@ -1,4 +1,4 @@
-use Rattle.std.proofs.Common.{◌≡◌, ◌+◌, ℕ, List, ◌∙◌, ap, drop}
+use Rattle.std.proofs.Common.{◌+◌, ℕ, List, ◌∙◌, ap, drop}
 use Rattle.lk_tree.proofs.ComponentLaws.{found_all, found_first, found_next}
 use Rattle.lk_tree.proofs.component.first_each.Goals as goal
 

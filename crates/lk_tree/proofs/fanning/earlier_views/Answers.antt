@@ -1,4 +1,4 @@
-use Rattle.std.proofs.Common.{◌≡◌, ◌∙◌, sym, subst}
+use Rattle.std.proofs.Common.{◌∙◌, sym, subst}
 use Rattle.std.specs.Prelude.{if◌then◌else◌}
 use Rattle.lk_tree.specs.PartSets.{HasParts}
 use Rattle.lk_tree.proofs.fanning.earlier_views.Goals as goal

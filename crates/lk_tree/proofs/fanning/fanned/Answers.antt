@@ -1,4 +1,4 @@
-use Rattle.std.proofs.Common.{◌≡◌, ◌∙◌, ◌∷◌, [], ap, arith}
+use Rattle.std.proofs.Common.{◌∙◌, ◌∷◌, [], ap, arith}
 use Rattle.lk_semantics.specs.Joins.{fanned_after}
 use Rattle.lk_tree.proofs.PartSetLaws.{all_views, joins_start, next_views, no_views}
 use Rattle.lk_tree.proofs.fanning.fanned.Goals as goal

@@ -1,4 +1,4 @@
-use Rattle.std.proofs.Common.{◌≡◌, ℕ, ◌∙◌, ◌++◌, ◌∷◌, [], List, sym, subst}
+use Rattle.std.proofs.Common.{ℕ, ◌∙◌, ◌++◌, ◌∷◌, [], List, sym, subst}
 use Rattle.std.specs.Prelude.{if◌then◌else◌}
 use Rattle.lk_semantics.specs.Joins.{repeats_earlier}
 use Rattle.lk_tree.specs.PartSets.{HasParts}

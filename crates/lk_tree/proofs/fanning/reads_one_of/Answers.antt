@@ -1,4 +1,4 @@
-use Rattle.std.proofs.Common.{◌≡◌, ◌<◌, ◌∙◌, sym, arith}
+use Rattle.std.proofs.Common.{◌∙◌, sym, arith}
 use Rattle.lk_semantics.specs.Joins.{condition_of, mentions_of}
 use Rattle.lk_tree.proofs.PartSetLaws.{none_of_all, one_of_some}
 use Rattle.lk_tree.proofs.fanning.reads_one_of.Goals as goal

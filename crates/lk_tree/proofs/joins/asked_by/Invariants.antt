@@ -1,7 +1,6 @@
 use Rattle.std.proofs.Common.{◌≡◌, map}
-use Rattle.lk_semantics.specs.Derived.{asked_parts}
 use Rattle.lk_semantics.specs.Joins.{numbers_below}
-use Rattle.lk_tree.specs.Asking.{does_ask, is_asked_first}
+use Rattle.lk_tree.specs.Asking.{does_ask}
 use Rattle.lk_tree.proofs.joins.asked_by.Given as goal
 
 abbrev pub invariant-loop-j : goal.invariant-loop-j

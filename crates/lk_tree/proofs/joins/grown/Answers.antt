@@ -1,4 +1,4 @@
-use Rattle.std.proofs.Common.{◌≡◌, ℕ, suc, ◌+◌, ◌∙◌, ◌++◌, ◌∷◌, ◌||◌, [], Bool, List, ap, sym, arith}
+use Rattle.std.proofs.Common.{◌≡◌, ℕ, suc, ◌+◌, ◌∙◌, ◌++◌, ◌∷◌, ◌||◌, [], Bool, ap, arith}
 use Rattle.std.specs.Prelude.{filter, if◌then◌else◌}
 use Rattle.lk_types.specs.Expressions.{has_number}
 use Rattle.lk_semantics.specs.Joins.{is_asked, numbers_below}

@@ -1,4 +1,4 @@
-use Rattle.std.proofs.Common.{◌≡◌, ℕ, ◌+◌, ◌-◌, ◌∙◌, List, ap, sym, length, arith}
+use Rattle.std.proofs.Common.{◌≡◌, ◌-◌, ◌∙◌, ap, sym, length, arith}
 use Rattle.std.specs.Prelude.{nat_eq}
 use Rattle.lk_val.specs.Least.{grown, grown_times}
 use Rattle.lk_semantics.specs.Joins.{is_asked, numbers_below}
