@@ -1,6 +1,7 @@
 #!/bin/sh
 # Times `gather` and `merge` on projects of several shapes: 500 views of 40 fields over 1,000 files, each refined once and a
-# fifth extending another; the same with a view that extends itself; a chain of 500 extensions; a diamond of ten levels.
+# fifth extending another; the same with a view that extends itself; a chain of 500 extensions, each with a field of its own;
+# chains of views that say one field anew; diamonds of ten and of 40 levels.
 # With each line stands the most memory that its process took. A measurement, not a test: it builds a program in a folder
 # of its own, which proves it first.
 crates='lk_val lk_utf8 lk_read lk_io lk_params lk_include lk_merge'
@@ -69,6 +70,16 @@ fn chain(alloc: Global, count: usize, files: &mut Items<File>) -> Result<(), NoM
     files.push(file(alloc, "m.model.lkml", model)?)
 }
 
+// The same, where each says anew what the one field is.
+fn line(alloc: Global, count: usize, files: &mut Items<File>) -> Result<(), NoMemory> {
+    let mut model = String::from_str(alloc, "view: v0 { dimension: f { type: number } }\n")?;
+    for number in 1..count {
+        let before = number.saturating_sub(1);
+        model.push_str(format!(in alloc; "view: v{number} {{ extends: [v{before}] dimension: f {{ label: \"{number}\" }} }}\n")?.as_str())?;
+    }
+    files.push(file(alloc, "m.model.lkml", model)?)
+}
+
 // Two views a level, each of which extends both of the level before.
 fn diamond(alloc: Global, levels: usize, files: &mut Items<File>) -> Result<(), NoMemory> {
     let mut model = String::from_str(alloc, "view: a0 { dimension: f { type: number } }\nview: b0 { dimension: g { type: number } }\n")?;
@@ -85,6 +96,7 @@ fn folder(alloc: Global, shape: &str, size: usize) -> Result<MemFiles, NoMemory>
         "refined" => refined(alloc, size, &mut files)?,
         "cycle" => cycle(alloc, size, &mut files)?,
         "chain" => chain(alloc, size, &mut files)?,
+        "line" => line(alloc, size, &mut files)?,
         _ => diamond(alloc, size, &mut files)?,
     }
     for table in ["schema.csv", "users.csv"] {
@@ -127,6 +139,6 @@ fn main(rt: HostRuntime) -> io::Result<()> {
 }
 END
 (cd "$work/crates/timing" && touch stdin && rt run) >"$work/build.log" 2>&1 || { tail -n 40 "$work/build.log"; exit 1; }
-for line in 'refined 500' 'cycle 500' 'chain 500' 'diamond 10'; do
+for line in 'refined 500' 'cycle 500' 'chain 500' 'line 500' 'line 5000' 'line 20000' 'diamond 10' 'diamond 40'; do
     echo "$line" | /usr/bin/time -f '  at most %M KB of memory' "$work/crates/timing/out/timing"
 done

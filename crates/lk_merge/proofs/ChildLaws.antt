@@ -1,17 +1,16 @@
 -- Children of one name in steps: what some of them come to may stand in their place.
-use Rattle.std.proofs.Common.{◌≡◌, ◌∙◌, ℕ, Bool, true, false, List, [], ◌∷◌, ◌++◌, map, refl, sym, ap}
-use Rattle.std.specs.Prelude.{Option, Some, None}
-use Rattle.std.specs.List.{AllByRecursion, filter, flat_map, list_any}
+use Rattle.std.proofs.Common.{◌≡◌, ◌∙◌, ℕ, List, [], ◌∷◌, ◌++◌, map, refl, sym, ap}
+use Rattle.std.specs.Prelude.{Option}
+use Rattle.std.specs.List.{AllByRecursion, filter, flat_map}
 use Rattle.std.specs.Cmp.Lexicographic.{nat_list_eq_equiv}
 use Rattle.std.proofs.lemmas.List.{map-append}
 use Rattle.lk_val.specs.Texts.{is_same_text}
 use Rattle.lk_read.specs.Outline.{Outline}
-use Rattle.lk_read.specs.TreeOutline.{outline_of}
 use Rattle.lk_read.specs.declared.tree.Item.{Item}
 use Rattle.lk_read.specs.declared.tree.Node.{Node}
 use Rattle.lk_read.specs.declared.tree.Node.TheVariants as node
-use Rattle.lk_params.specs.Parameters.{items_of, named}
-use Rattle.lk_params.specs.Picking.{firsts, last_given}
+use Rattle.lk_params.specs.Parameters.{named}
+use Rattle.lk_params.specs.Picking.{last_given}
 use Rattle.lk_params.specs.Overlay.{names_in, overlaid}
 use Rattle.lk_params.proofs.ItemLaws.{items_of_outline}
 use Rattle.lk_params.proofs.Steps.{text_exact}

@@ -1,12 +1,12 @@
 -- Where no number rises along bases, a name whose number falls stands on no cycle; and a name from which a path leads back
 -- stands on one.
-use Rattle.std.proofs.Common.{◌≡◌, ◌∙◌, ℕ, zero, suc, Bool, true, false, ◌&&◌, ◌||◌, ◌⊎◌, inl, inr, ⊎_elim, List, [], ◌∷◌, length, Option, Some, None, refl, sym, ap, subst, arith}
+use Rattle.std.proofs.Common.{◌≡◌, ◌∙◌, ℕ, zero, suc, Bool, true, false, ◌&&◌, ◌||◌, ⊎_elim, List, [], ◌∷◌, length, Option, Some, None, refl, sym, ap, subst, arith}
 use Rattle.std.specs.Prelude.{filter}
-use Rattle.std.specs.List.{list_any, list_all}
+use Rattle.std.specs.List.{list_any}
 use Rattle.std.proofs.lemmas.Bool.{false≢true}
 use Rattle.std.proofs.lemmas.Bool.Decides.{nat_tests}
 use Rattle.std.proofs.lemmas.Map.Views.{any-filter_same}
-use Rattle.lk_val.specs.Least.{is_in, grown_times, least_set}
+use Rattle.lk_val.specs.Least.{is_in, grown_times}
 use Rattle.lk_val.proofs.LeastLaws.{IsEquality, IsMonotone, least_set-kept, any_within}
 use Rattle.lk_val.specs.Texts.{is_same_text}
 use Rattle.lk_params.proofs.Steps.{text_exact}

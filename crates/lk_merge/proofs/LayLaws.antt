@@ -1,6 +1,6 @@
 -- Merging in steps: what some of the blocks come to may stand in their place. An item goes to a slot, and a slot is filled
 -- by the items of all blocks that go to it.
-use Rattle.std.proofs.Common.{◌≡◌, ◌∙◌, Bool, true, false, cond, ◌||◌, List, [], ◌∷◌, ◌++◌, map, refl, sym, ap, subst, append_assoc, append-nil}
+use Rattle.std.proofs.Common.{◌≡◌, ◌∙◌, Bool, true, false, cond, ◌||◌, List, [], ◌∷◌, ◌++◌, map, refl, sym, ap, subst, append-nil}
 use Rattle.std.specs.Prelude.{not, if◌then◌else◌}
 use Rattle.std.specs.List.{AllByRecursion, filter, flat_map, fold, list_any}
 use Rattle.std.proofs.lemmas.Bool.{false≢true}

@@ -1,11 +1,9 @@
 -- Merging in steps: what some contributors come to may stand in their place.
-use Rattle.std.proofs.Common.{◌≡◌, ◌∙◌, ℕ, Bool, true, false, ◌&&◌, List, [], ◌∷◌, ◌++◌, map, refl, sym, ap, subst, append_assoc}
-use Rattle.std.specs.Prelude.{Option, Some, None, if◌then◌else◌}
+use Rattle.std.proofs.Common.{◌≡◌, ◌∙◌, ℕ, true, false, ◌&&◌, List, [], ◌∷◌, ◌++◌, map, refl, sym, ap, subst, append_assoc}
+use Rattle.std.specs.Prelude.{Some, None, if◌then◌else◌}
 use Rattle.std.specs.List.{AllByRecursion, flat_map, list_any}
 use Rattle.std.proofs.lemmas.Bool.{false≢true}
 use Rattle.std.proofs.lemmas.List.Concat.{flat_map-append}
-use Rattle.lk_val.specs.Texts.{is_same_text}
-use Rattle.lk_read.specs.Outline.{Outline}
 use Rattle.lk_read.specs.declared.tree.Item.{Item}
 use Rattle.lk_read.specs.declared.tree.Node.{Node}
 use Rattle.lk_read.specs.declared.tree.Node.TheVariants as node
@@ -16,7 +14,7 @@ use Rattle.lk_merge.specs.Overlay.{is_same_slot, merges, accumulates, slot_alone
 use Rattle.lk_merge.proofs.RankLaws.{same_itself}
 use Rattle.lk_merge.proofs.Steps.{slot_exact}
 use Rattle.lk_merge.proofs.ChildLaws.{IsBlock, as_one, child_within}
-use Rattle.lk_merge.proofs.LayLaws.{Fills, slots, laid, laid_within, last_fills, last_absent, last_middle, fills_all, all_of_absent, all_of_all, all_of_none, all_there, all_mapped, all_zipped, all_from}
+use Rattle.lk_merge.proofs.LayLaws.{Fills, slots, laid_within, last_fills, last_absent, last_middle, fills_all, all_of_absent, all_of_all, all_of_none, all_there, all_mapped, all_zipped, all_from}
 
 module _ (k : Kind) where
   never_child : (item : Item) (n t : List ℕ) → slot_alone k item ≡ Child n t → ⊥

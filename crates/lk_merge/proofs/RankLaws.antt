@@ -1,6 +1,6 @@
 -- Where each name's number is above those of its bases, no object extends itself.
 use Rattle.std.proofs.Common.{◌≡◌, ◌∙◌, ℕ, zero, suc, Bool, true, false, ◌&&◌, ◌||◌, ◌⊎◌, inl, inr, ⊎_elim, List, [], ◌∷◌, length, Option, Some, None, refl, sym, ap, subst, arith}
-use Rattle.std.specs.Prelude.{filter, find, nat_lt, if◌then◌else◌, option_and_then}
+use Rattle.std.specs.Prelude.{filter, find, option_and_then}
 use Rattle.std.specs.List.{list_any, list_all}
 use Rattle.std.proofs.lemmas.Bool.{false≢true}
 use Rattle.std.proofs.lemmas.Bool.Decides.{nat_tests}
@@ -11,7 +11,7 @@ use Rattle.lk_params.proofs.Steps.{text_exact}
 use Rattle.lk_merge.specs.declared.declaration.Kind.{Kind}
 use Rattle.lk_merge.specs.declared.declaration.Declaration.{Declaration}
 use Rattle.lk_merge.specs.Objects.{bases_of, declared_names, declaration_of}
-use Rattle.lk_merge.specs.MergeFaults.{reaches, reached, is_on_cycle, cycle_line, extends_itself}
+use Rattle.lk_merge.specs.MergeFaults.{reaches, is_on_cycle, cycle_line, extends_itself}
 use Rattle.lk_merge.specs.Ranks.{rank_in, is_below, descends, do_descend}
 
 pub split_and : (a b : Bool) → (a && b) ≡ true → (a ≡ true) × (b ≡ true)

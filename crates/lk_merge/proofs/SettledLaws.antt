@@ -1,7 +1,7 @@
 -- Where each name's number is above those of its bases, what an object hands on is settled once chains are longer than it.
-use Rattle.std.proofs.Common.{◌≡◌, ◌≢◌, ◌∙◌, ◌-◌, ◌+◌, ◌<◌, ℕ, zero, suc, Bool, true, false, ◌||◌, List, [], ◌∷◌, ◌++◌, length, Option, Some, None, refl, sym, ap, subst, sub-one, arith}
+use Rattle.std.proofs.Common.{◌≡◌, ◌∙◌, ◌<◌, ℕ, zero, suc, true, false, ◌||◌, List, [], ◌∷◌, ◌++◌, length, Option, Some, None, refl, sym, ap, subst, arith}
 use Rattle.std.specs.Prelude.{map, nat_lt, if◌then◌else◌}
-use Rattle.std.specs.List.{flat_map, list_all, list_any}
+use Rattle.std.specs.List.{flat_map, list_all}
 use Rattle.std.proofs.lemmas.Bool.{false≢true}
 use Rattle.std.proofs.lemmas.Bool.Decides.{nat_tests}
 use Rattle.lk_val.specs.Least.{is_in}
@@ -15,7 +15,6 @@ use Rattle.lk_merge.specs.Overlay.{merged}
 use Rattle.lk_merge.specs.Ranks.{rank_in, is_below, descends, do_descend}
 use Rattle.lk_merge.specs.Rows.{row_of}
 use Rattle.lk_merge.proofs.RankLaws.{split_and, or_later, same_itself, all_of}
-use Rattle.lk_merge.proofs.HandedLaws.{handed_further}
 use Rattle.lk_merge.proofs.MergeLaws.{merged_by_each}
 
 -- a name that has a number is there

@@ -1,8 +1,8 @@
-use Rattle.std.proofs.Common.{◌≡◌, ◌∙◌, ◌-◌, ◌++◌, List, map, ap}
+use Rattle.std.proofs.Common.{◌≡◌, ◌∙◌, ◌-◌, ◌++◌, map, ap}
 use Rattle.std.specs.List.{flat_map}
 use Rattle.lk_val.specs.Texts.{is_same_text}
 use Rattle.lk_params.specs.Picking.{firsts}
-use Rattle.lk_merge.specs.Objects.{bases_of, extends_of, handed_on, own}
+use Rattle.lk_merge.specs.Objects.{bases_of, extends_of, handed_on}
 use Rattle.lk_merge.specs.Walking.{handed_back}
 use Rattle.lk_merge.proofs.HandedLaws.{visited, fewer_visits}
 use Rattle.lk_merge.proofs.contributors.visit.Goals as goal

@@ -1,4 +1,4 @@
-use Rattle.std.proofs.Common.{◌≡◌, ◌∙◌, ℕ, Bor, List, [], ◌∷◌, ◌++◌, Some, None, map, sym, ap, rules}
+use Rattle.std.proofs.Common.{◌∙◌, ℕ, Bor, [], ◌∷◌, ◌++◌, Some, None, map, sym, ap, rules}
 use Rattle.std.specs.BTreeMap.{get}
 use Rattle.std.proofs.lemmas.List.{map-append}
 use Rattle.lk_read.specs.declared.tree.Item.{Item}

@@ -1,4 +1,4 @@
-use Rattle.std.proofs.Common.{◌≡◌, ◌∙◌, ◌∷◌, ◌++◌, [], ap}
+use Rattle.std.proofs.Common.{◌∙◌, ◌∷◌, ◌++◌, [], ap}
 use Rattle.lk_merge.proofs.RowLaws.{row_step}
 use Rattle.lk_merge.proofs.rows.rows_of.Goals as goal
 
