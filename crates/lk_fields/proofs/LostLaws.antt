@@ -170,10 +170,10 @@ module _ (views : List DeclaredView) (scope : Scope) where
       let there : is_in is_same_place x all ≡ true = ap (λ xs. is_in is_same_place x xs) e ∙ among front x rest in
       let kept : p x ≡ is_in is_same_place x (filter p all) = sym (passing p x all ∙ ap (λ t. p x && t) there ∙ and_true (p x)) in
       let head = ap (λ t. t || is_taken r (map p all) (row_at r views scope all x)) (marked ∙ kept)
-          ∙ ap (λ t. is_in is_same_place x (filter p all) || t) (taken r p all x) in
+      ∙ ap (λ t. is_in is_same_place x (filter p all) || t) (taken r p all x) in
       let further : all ≡ (front ++ x ∷ []) ++ rest = e ∙ sym (append_assoc front (x ∷ []) rest) in
       let tail = ap (λ n. marks_from r (map p all) n (map (row_at r views scope all) rest)) (sym (one_further front x))
-          ∙ round_marks r p all (front ++ x ∷ []) rest further in
+      ∙ round_marks r p all (front ++ x ∷ []) rest further in
       λ i. head i ∷ tail i
 
   -- ---- rounds

@@ -1,4 +1,4 @@
-use Rattle.std.proofs.Common.{◌≡◌, ◌∙◌, ap, not}
+use Rattle.std.proofs.Common.{◌∙◌, ap, not}
 use Rattle.std.specs.List.{list_any}
 use Rattle.lk_fields.specs.declared.rows.Rule.TheVariants.{Loses}
 use Rattle.lk_fields.specs.Rows.{is_marked, marks_of, number_of, option_list}
