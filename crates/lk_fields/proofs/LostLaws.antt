@@ -1,6 +1,6 @@
 -- Rounds of marks over numbers are rounds of the set of lost fields.
 use Rattle.std.proofs.Common.{◌≡◌, ◌∙◌, ℕ, zero, suc, ◌+◌, Bool, true, false, ◌&&◌, ◌||◌, List, [], ◌∷◌, ◌++◌, length, map, Option, Some, None, refl, sym, ap, append_assoc, length-append}
-use Rattle.std.specs.Prelude.{filter, if◌then◌else◌, nat_eq, not, is_none}
+use Rattle.std.specs.Prelude.{filter, if◌then◌else◌, nat_eq, not, is_none, is_some}
 use Rattle.std.specs.List.{list_all, list_any, position_from}
 use Rattle.std.proofs.lemmas.Bool.{eq-eqb, eqb-true, false≢true}
 use Rattle.std.proofs.lemmas.Iterator.Adapters.{position_from-zero}
@@ -96,6 +96,18 @@ pub named : (p : Place → Bool) (all : List Place) (y : Place)
     → list_any (is_marked (map p all)) (option_list (number_of all y)) ≡ is_in is_same_place y (filter p all)
 named p all y =
     ap (λ n. list_any (is_marked (map p all)) (option_list n)) (position_from-zero (is_same_place y) all) ∙ numbered p y [] all
+
+-- a place is among all where it has a number
+there_from : (y : Place) (k : ℕ) (rest : List Place) → is_some (position_from (is_same_place y) k rest) ≡ is_in is_same_place y rest
+there_from y k [] = refl
+there_from y k (x ∷ rest) =
+    elim (is_same_place y x) as (λ b. is_some (if b then Some k else position_from (is_same_place y) (k + 1) rest) ≡ (b || is_in is_same_place y rest)) [
+      | true ↦ refl
+      | false ↦ there_from y (k + 1) rest
+    ]
+
+pub there : (all : List Place) (y : Place) → is_some (number_of all y) ≡ is_in is_same_place y all
+there all y = ap is_some (position_from-zero (is_same_place y) all) ∙ there_from y 0 all
 
 -- ---- rows
 

@@ -95,9 +95,9 @@ is_lost_after views scope lost place = loses views scope lost place (field_at vi
 abbrev pub lost : List DeclaredView → Scope → List Place
 lost views scope = least_set is_same_place (all_places views scope) (is_lost_after views scope)
 
--- the field is one of the explore
+-- a declared field is one of the explore
 abbrev pub exists : List DeclaredView → Scope → Place → Bool
-exists views scope place = not (is_in is_same_place place (lost views scope))
+exists views scope place = is_in is_same_place place (all_places views scope) && not (is_in is_same_place place (lost views scope))
 
 -- ---- cycles
 
@@ -124,7 +124,7 @@ ending views scope = least_set is_same_place (all_places views scope) (ends_afte
 
 -- the field stands on a cycle of references or reaches one: its references come to no end
 abbrev pub reaches_cycle : List DeclaredView → Scope → Place → Bool
-reaches_cycle views scope place = not (is_in is_same_place place (ending views scope))
+reaches_cycle views scope place = is_in is_same_place place (all_places views scope) && not (is_in is_same_place place (ending views scope))
 
 -- a place is a target of a field, or of one of some
 abbrev pub is_target_of : List DeclaredView → Scope → List Place → Place → Bool

@@ -1,5 +1,5 @@
 -- What each field of a scope names, by numbers, and the rounds by which fields are lost.
-use Rattle.std.specs.Prelude.{ℕ, zero, suc, ◌+◌, Bool, true, false, not, ◌||◌, ◌&&◌, List, [], ◌∷◌, ◌++◌, map, Option, Some, None, is_none, length, slice_index_or}
+use Rattle.std.specs.Prelude.{ℕ, zero, suc, ◌+◌, Bool, true, false, not, ◌||◌, ◌&&◌, List, [], ◌∷◌, ◌++◌, map, Option, Some, None, is_none, is_some, length, slice_index_or}
 use Rattle.std.specs.Bool.{beq}
 use Rattle.std.specs.Cmp.Lexicographic.{pointwise}
 use Rattle.std.specs.List.{list_all, list_any, position}
@@ -61,6 +61,10 @@ row_at r views scope all place = row_by r views scope all place.part (field_at v
 
 abbrev pub is_marked : List Bool → ℕ → Bool
 is_marked marks n = slice_index_or marks n false
+
+-- there is a number, and its field is not marked
+abbrev pub is_unmarked : List Bool → Option ℕ → Bool
+is_unmarked marks n = is_some n && not (list_any (is_marked marks) (option_list n))
 
 -- a field that lacks a name or names a marked field; or one that lacks none, and of which all names are marked
 abbrev pub is_taken : Rule → List Bool → Row → Bool

@@ -2,7 +2,7 @@ ghost use Rattle.std.specs.Prelude.{◌≡◌, IfOk};
 ghost use Rattle.lk_fields.specs.Existing.{all_places};
 ghost use Rattle.lk_fields.specs.Rows.{marks_of};
 
-use crate::marks::{is_one_marked, last_marks};
+use crate::marks::{is_unmarked, last_marks};
 use crate::places::all_places;
 use crate::rows::{Rule, number_of, rows_of};
 use crate::scope::{Place, Scope};
@@ -39,24 +39,25 @@ impl FieldSet {
         })
     }
 
-    /// Whether a declared field is a field of the scope: all that its text names is there, and so on. (Looker, LookML
-    /// reference: explore, fields)
+    /// Whether a place is that of a declared field which is a field of the scope: all that its text names is there, and so
+    /// on. (Looker, LookML reference: explore, fields)
     pub fn exists(&self, place: Place) -> bool
         ensures { (views : List DeclaredView) (scope : Scope) → IsSetOf views scope self.now
             → result ≡ exists views scope place }
     {
-        !is_one_marked(
+        is_unmarked(
             self.lost.as_slice(),
             number_of(self.places.as_slice(), place),
         )
     }
 
-    /// Whether a declared field stands on a cycle of references or reaches one, so that its references come to no end.
+    /// Whether a place is that of a declared field which stands on a cycle of references or reaches one, so that its
+    /// references come to no end.
     pub fn reaches_cycle(&self, place: Place) -> bool
         ensures { (views : List DeclaredView) (scope : Scope) → IsSetOf views scope self.now
             → result ≡ reaches_cycle views scope place }
     {
-        !is_one_marked(
+        is_unmarked(
             self.ending.as_slice(),
             number_of(self.places.as_slice(), place),
         )

@@ -1,6 +1,6 @@
 ghost use Rattle.std.specs.Prelude.{◌≡◌, ◌||◌, IfOk, length};
 ghost use Rattle.std.specs.List.{list_all, list_any};
-ghost use Rattle.lk_fields.specs.Rows.{are_same, is_marked, is_taken, marks_after, marks_from, next_marks, no_marks, option_list};
+ghost use Rattle.lk_fields.specs.Rows.{are_same, is_marked, is_taken, marks_after, marks_from, is_unmarked, next_marks, no_marks};
 
 use crate::rows::{Row, Rule};
 use lk_val::{Items, NoMemory};
@@ -99,12 +99,12 @@ fn are_same(a: &[bool], b: &[bool]) -> bool
     a == b
 }
 
-// There is a number, and its field is marked.
-pub(crate) fn is_one_marked(marks: &[bool], number: Option<usize>) -> bool
-    ensures { result ≡ list_any (is_marked marks.now) (option_list number) }
+// There is a number, and its field is not marked.
+pub(crate) fn is_unmarked(marks: &[bool], number: Option<usize>) -> bool
+    ensures { result ≡ is_unmarked marks.now number }
 {
     match number {
         None => false,
-        Some(number) => is_marked(marks, number),
+        Some(number) => !is_marked(marks, number),
     }
 }
