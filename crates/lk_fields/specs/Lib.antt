@@ -2,3 +2,5 @@ pub mod Existing
 pub mod FieldSets
 pub mod Rows
 pub mod Scopes
+pub mod Substituted
+pub mod SubstitutedNodes
