@@ -1,5 +1,5 @@
 -- How an expression with others in place of its columns is found, and how nodes are counted: node by node of its list.
-use Rattle.std.specs.Prelude.{◌≡◌, ℕ, ◌+◌, nat_eq, Bool, false, List, [], ◌∷◌, ◌++◌, length}
+use Rattle.std.specs.Prelude.{◌≡◌, ℕ, nat_eq, Bool, false, List, [], ◌∷◌, ◌++◌, length}
 use Rattle.lk_postfix.specs.Postfix.{Builds}
 use Rattle.lk_types.specs.Formula.{Formula}
 use Rattle.lk_types.specs.FormulaNodes.{arity, made}
