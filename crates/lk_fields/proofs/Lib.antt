@@ -1,3 +1,4 @@
+pub mod CountWithLaws
 pub mod DotLaws
 pub mod LostLaws
 pub mod MarkLaws

@@ -2,6 +2,7 @@
 use Rattle.std.proofs.Common.{◌≡◌, ℕ, suc, ◌+◌, ◌<◌, true, false, List, [], ◌∷◌, length, refl, sym, ap, ◌∙◌, arith}
 use Rattle.std.specs.Prelude.{cond, drop, nat_eq}
 use Rattle.std.specs.List.{count_by}
+use Rattle.std.proofs.Math.Nat.{add-zero, add_assoc, zero-add}
 use Rattle.std.proofs.lemmas.List.Sums.{sum_by-cons}
 use Rattle.lk_postfix.specs.Postfix.{gathered, is_whole}
 use Rattle.lk_postfix.proofs.PostfixLaws.{gathered-Builds}
@@ -14,20 +15,11 @@ use Rattle.lk_fields.specs.Substituted.{nodes_in, nodes_in_all, nodes_in_cases}
 use Rattle.lk_fields.specs.SubstitutedNodes.{is_bare_list}
 
 -- what one node adds to the number, beside what its operands add
-abbrev own_count : Node → ℕ
+abbrev pub own_count : Node → ℕ
 own_count n = 1 + cond (is_bare_list n) 1 0
 
-abbrev all_of : List Formula → ℕ
+abbrev pub all_of : List Formula → ℕ
 all_of ts = gathered ◌+◌ 0 nodes_in ts
-
-add_assoc : (a b c : ℕ) → (a + b) + c ≡ a + (b + c)
-add_assoc a b c = omega arith
-
-add_left : (a : ℕ) → 0 + a ≡ a
-add_left a = omega arith
-
-add_right : (a : ℕ) → a + 0 ≡ a
-add_right a = omega arith
 
 one_of : (ts : List Formula) → length ts ≡ 1 → 1 + nodes_in (operand ts 0) ≡ all_of ts + 1
 one_of [] h = absurd (omega arith)
@@ -60,12 +52,12 @@ no_test : (k : ℕ) → 0 < k → nat_eq k 0 ≡ false
 no_test k h = grind arith
 
 in_list : (k : ℕ) (ts : List Formula) → length ts ≡ k → 1 + nodes_in (operand ts 0) + nodes_in_all (formulas_of (drop 1 ts)) ≡ all_of ts + (1 + cond (nat_eq k 0) 1 0)
-in_list k [] h = ap (λ m. 1 + cond (nat_eq m 0) 1 0) h ∙ sym (add_left (1 + cond (nat_eq k 0) 1 0))
+in_list k [] h = ap (λ m. 1 + cond (nat_eq m 0) 1 0) h ∙ sym (zero-add (1 + cond (nat_eq k 0) 1 0))
 in_list k (a ∷ ts) h =
     let some : 1 + cond (nat_eq k 0) 1 0 ≡ 1 = ap (λ b. 1 + cond b 1 0) (no_test k (omega arith)) in
     omega (arith, in_all ts, some)
 
-does : (n : Node) (ts : List Formula) → length ts ≡ arity n → nodes_in (made n ts) ≡ all_of ts + own_count n
+pub does : (n : Node) (ts : List Formula) → length ts ≡ arity n → nodes_in (made n ts) ≡ all_of ts + own_count n
 does (node.Column p c) [] h = refl
 does (node.Column p c) (t ∷ ts) h = absurd (omega arith)
 does (node.Literal v) [] h = refl
@@ -102,5 +94,5 @@ each (n ∷ ns) =
 pub counted : (ns : List Node) → is_whole arity ns ≡ true → length ns + count_by is_bare_list ns ≡ nodes_in (formula_of ns)
 counted ns h =
     sym (each ns)
-    ∙ sym (gathered-Builds arity made ◌+◌ 0 add_assoc add_left add_right nodes_in own_count does (own ns h))
-    ∙ add_right (nodes_in (formula_of ns))
+    ∙ sym (gathered-Builds arity made ◌+◌ 0 add_assoc zero-add add-zero nodes_in own_count does (own ns h))
+    ∙ add-zero (nodes_in (formula_of ns))

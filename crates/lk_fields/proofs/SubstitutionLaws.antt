@@ -27,7 +27,7 @@ one_depth : (depth : Option ℕ) → is_one depth ≡ true → depth ≡ Some 1
 one_depth None h = absurd (false≢true h)
 one_depth (Some d) h = let same : d ≡ 1 = grind arith in ap (λ m. Some m) same
 
-map_at : {A B : Type 0} (f : A → B) (xs : List A) (i : ℕ) (d : A) → slice_index_or (map f xs) i (f d) ≡ f (slice_index_or xs i d)
+pub map_at : {A B : Type 0} (f : A → B) (xs : List A) (i : ℕ) (d : A) → slice_index_or (map f xs) i (f d) ≡ f (slice_index_or xs i d)
 map_at f [] i d = refl
 map_at f (x ∷ xs) zero d = refl
 map_at f (x ∷ xs) (suc i) d = map_at f xs i d
@@ -51,7 +51,7 @@ pub past_end : (by : List Formula) (i : ℕ) → false ≡ nat_lt i (length by) 
 past_end by i past = sym (get_or_past by i (Literal value.Null) (le_of_no_test i (length by) (sym past)))
 
 module _ (s : ℕ → Formula) where
-  abbrev put : Formula → Formula
+  abbrev pub put : Formula → Formula
   put e = substituted s e
 
   -- ---- what a node makes
@@ -68,7 +68,7 @@ module _ (s : ℕ → Formula) where
   cases_put (a ∷ []) = refl
   cases_put (c ∷ a ∷ xs) = ap (λ rest. when (put c) (put a) rest) (cases_put xs)
 
-  does : (n : Node) (xs : List Formula) → made_with s n (map put xs) ≡ put (made n xs)
+  pub does : (n : Node) (xs : List Formula) → made_with s n (map put xs) ≡ put (made n xs)
   does (node.Column part column) xs = refl
   does (node.Literal l) xs = refl
   does (node.Framed f) xs = ap (formula.Framed f) (at xs 0)

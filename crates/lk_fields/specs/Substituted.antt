@@ -1,5 +1,5 @@
 -- An expression with others in place of its columns, and how many nodes an expression has. (lookd)
-use Rattle.std.specs.Prelude.{ℕ, ◌+◌, List, slice_index_or}
+use Rattle.std.specs.Prelude.{ℕ, ◌+◌, ◌-◌, ◌^◌, List, min, slice_index_or}
 use Rattle.lk_val.specs.declared.value.Value.TheVariants as value
 use Rattle.lk_types.specs.Formula.{Formula, Column, Literal, Framed, Not, And, Or, Compare, IsNull, In, Between, Like, Number, Negate, Concat, Lower, Upper, Case, Coalesce, NullIf, Formulas, no_more, more, Cases, without_else, otherwise, when}
 
@@ -72,3 +72,7 @@ abbrev mutual
   nodes_in_cases without_else = 0
   nodes_in_cases (otherwise a) = nodes_in a
   nodes_in_cases (when c a rest) = nodes_in c + nodes_in a + nodes_in_cases rest
+
+-- the number as it is told in 64 bits, where the greatest stands for so many and more
+abbrev pub told_nodes : Formula → ℕ
+told_nodes e = min (nodes_in e) (2 ^ 64 - 1)

@@ -1,5 +1,5 @@
 -- How an expression with others in place of its columns is found, and how nodes are counted: node by node of its list.
-use Rattle.std.specs.Prelude.{◌≡◌, ℕ, nat_eq, Bool, false, List, [], ◌∷◌, ◌++◌, length}
+use Rattle.std.specs.Prelude.{◌≡◌, ℕ, nat_eq, Bool, false, List, [], ◌∷◌, ◌++◌, length, if◌then◌else◌, slice_index_or}
 use Rattle.lk_postfix.specs.Postfix.{Builds}
 use Rattle.lk_types.specs.Formula.{Formula}
 use Rattle.lk_types.specs.FormulaNodes.{arity, made}
@@ -20,3 +20,9 @@ IsAddedWith s n before after =
 abbrev pub is_bare_list : Node → Bool
 is_bare_list (node.In count) = nat_eq count 0
 is_bare_list n = false
+
+-- what a node adds to the number of nodes, given how many stand for the column of each number
+abbrev pub count_with : List ℕ → Node → ℕ
+count_with counts (node.Column part column) = slice_index_or counts column 1
+count_with counts (node.In count) = if nat_eq count 0 then 2 else 1
+count_with counts n = 1

@@ -1,4 +1,4 @@
-//! The fields of an explore or of one view: which field a name means.
+//! The fields of an explore or of one view: which field a name means, and expressions with others in place of columns.
 #![tactic(auto)]
 
 mod existing;
@@ -18,7 +18,7 @@ pub use existing::FieldSet;
 pub use frame::frame_name;
 pub use made::{frame_made, has_sort};
 pub use names::{found_by, found_in, part_meant, split_name, view_at};
-pub use nodes::nodes_in;
+pub use nodes::{nodes_in, nodes_with};
 pub use places::all_places;
 pub use references::{field_at, fields_at, named_by, referred};
 pub use scope::{Found, Place, Scope, ScopePart, Sort, Writer};

@@ -1,7 +1,8 @@
-ghost use Rattle.std.specs.Prelude.{◌≡◌};
-ghost use Rattle.std.specs.List.{count_by};
-ghost use Rattle.lk_fields.specs.Substituted.{nodes_in};
-ghost use Rattle.lk_fields.specs.SubstitutedNodes.{is_bare_list};
+ghost use Rattle.std.specs.Prelude.{◌≡◌, ◌-◌, ◌^◌, List, map, min};
+ghost use Rattle.std.specs.List.{count_by, sum_by};
+ghost use Rattle.lk_types.specs.Formula.{Formula};
+ghost use Rattle.lk_fields.specs.Substituted.{nodes_in, replacement, substituted, told_nodes};
+ghost use Rattle.lk_fields.specs.SubstitutedNodes.{count_with, is_bare_list};
 
 use lk_types::{Expr, Node};
 
@@ -28,5 +29,34 @@ fn is_bare_list(node: &Node) -> bool
     match node {
         Node::In(count) => *count == 0,
         _ => false,
+    }
+}
+
+/// How many nodes the expression has with others in place of its columns, given how many the one for each column's
+/// number has; one past the end, where null stands. The greatest number means so many and more, there and here. (lookd)
+pub fn nodes_with(e: &Expr, counts: &[usize]) -> usize
+    ensures { (by : List Formula) → counts.now ≡ map told_nodes by → result ≡ told_nodes (substituted (replacement by) e.now) }
+{
+    total_with(e.nodes(), counts)
+}
+
+fn total_with(nodes: &[Node], counts: &[usize]) -> usize
+    ensures { result ≡ min (sum_by (count_with counts.now) nodes.now) (2 ^ 64 - 1) }
+{
+    let mut total = 0usize;
+    for node in nodes {
+        total = total.saturating_add(count_with(counts, node));
+    }
+    total
+}
+
+// What a node adds to the number: a column as many as stand for it, and one where nothing does.
+fn count_with(counts: &[usize], node: &Node) -> usize
+    ensures { result ≡ count_with counts.now node.now }
+{
+    match node {
+        Node::Column(_, column) => counts.get(*column as usize).copied().unwrap_or(1),
+        Node::In(count) => if *count == 0 { 2 } else { 1 },
+        _ => 1,
     }
 }
