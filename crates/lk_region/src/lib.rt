@@ -1,0 +1,11 @@
+//! Texts kept once each: a region numbers its texts, so that equal numbers are equal texts; and columns of them.
+#![tactic(auto)]
+
+mod column;
+mod mark;
+mod region;
+mod texts;
+
+pub use column::Column;
+pub use mark::Mark;
+pub use region::{Region, marks_are_texts};

@@ -1,0 +1,100 @@
+ghost use Rattle.std.specs.Prelude.{◌≡◌, ◌<◌, false, length, [], IfOk, OnOk, OnErr, IfSome, IfNone};
+ghost use Rattle.std.specs.List.{list_any};
+ghost use Rattle.lk_val.specs.Texts.{is_same_text};
+ghost use Rattle.lk_region.specs.Regions.{text_at, with_text, HasText, AreOnce};
+
+use crate::mark::Mark;
+use crate::texts::Texts;
+use lk_val::NoMemory;
+use std::alloc::Global;
+use std::marker::Model;
+
+/// Interned texts: each is kept once, and its mark is its number. Clauses see a region as the list of its
+/// texts, in which none stands twice. Only `intern` takes memory. (lookd)
+#[derive(Drop)]
+pub struct Region {
+    texts: Texts,
+}
+
+impl Model for Region {
+    ghost use Rattle.std.specs.Prelude.{List, ℕ};
+    ghost use Rattle.lk_region.specs.Regions.{AreOnce};
+
+    ghost Value = { List (List ℕ) };
+
+    ghost view = { λ region. region.texts };
+
+    ghost invariant = { λ region. AreOnce region.texts };
+}
+
+impl Region {
+    /// A region without texts.
+    #[tactic(auto, using(crate::proofs::RegionLaws::none_once))]
+    pub fn new(alloc: Global) -> Region
+        ensures { result ≡ [] }
+    {
+        Region {
+            texts: Texts::new(alloc),
+        }
+    }
+
+    /// The mark of a text. A text that is new comes behind the others, whose marks stay; after an error the
+    /// region is as before.
+    #[tactic(auto, using(crate::proofs::RegionLaws::text_stays, crate::proofs::RegionLaws::text_comes, crate::proofs::RegionLaws::added_once, crate::proofs::RegionLaws::text_last))]
+    pub fn intern(&mut self, text: &[u8]) -> Result<Mark, NoMemory>
+        ensures texts { OnOk result (self.new ≡ with_text text.now self.old) }
+        ensures mark { IfOk result (λ mark. HasText self.new mark.0 text.now) }
+        ensures err { OnErr result (self.new ≡ self.old) }
+    {
+        if let Some(number) = self.find(text) {
+            return Ok(Mark(number as u64));
+        }
+        let number = self.texts.len();
+        self.texts.push(text)?;
+        Ok(Mark(number as u64))
+    }
+
+    /// The text of a mark.
+    pub fn text(&self, m: Mark) -> &[u8]
+        requires { m.0 < length self.now }
+        ensures { result.now ≡ text_at self.now m.0 }
+    {
+        self.texts.get(m.0 as usize)
+    }
+
+    /// The number of texts.
+    pub fn len(&self) -> u64
+        ensures { result ≡ length self.now }
+    {
+        self.texts.len() as u64
+    }
+
+    /// Forgets every text, so that no mark of before has one. The memory is kept for the next texts.
+    #[tactic(auto, using(crate::proofs::RegionLaws::none_once))]
+    pub fn reset(&mut self)
+        ensures { self.new ≡ [] }
+    {
+        self.texts.clear();
+    }
+
+    // The number of a text, where the region has it.
+    #[tactic(auto, using(crate::proofs::RegionLaws::equal_texts))]
+    fn find(&self, text: &[u8]) -> Option<usize>
+        ensures found { IfSome result (λ number. HasText self.now number text.now) }
+        ensures absent { IfNone result (list_any (is_same_text text.now) self.now ≡ false) }
+    {
+        for number in 0..self.texts.len() {
+            if text == self.texts.get(number) {
+                return Some(number);
+            }
+        }
+        None
+    }
+}
+
+/// Two marks of a region are equal exactly where their texts are. A law: it computes nothing.
+pub fn marks_are_texts(region: &Region)
+    ensures { AreOnce region.now }
+{
+    let _texts = &region.texts;
+}
