@@ -2,6 +2,7 @@
 #![tactic(auto)]
 
 mod column;
+mod hash;
 mod mark;
 mod region;
 mod texts;

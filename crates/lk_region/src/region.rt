@@ -3,10 +3,12 @@ ghost use Rattle.std.specs.List.{list_any};
 ghost use Rattle.lk_val.specs.Texts.{is_same_text};
 ghost use Rattle.lk_region.specs.Regions.{text_at, with_text, HasText, AreOnce};
 
+use crate::hash::hash_of;
 use crate::mark::Mark;
 use crate::texts::Texts;
 use lk_val::NoMemory;
 use std::alloc::Global;
+use std::collections::HashMap;
 use std::marker::Model;
 
 /// Interned texts: each is kept once, and its mark is its number. Clauses see a region as the list of its
@@ -14,17 +16,22 @@ use std::marker::Model;
 #[derive(Drop)]
 pub struct Region {
     texts: Texts,
+    // For each hash, the number of the last text that has it.
+    latest: HashMap<u64, usize>,
+    // For each text, the number of the one before it that has the same hash.
+    earlier: Vec<Option<usize>>,
 }
 
 impl Model for Region {
     ghost use Rattle.std.specs.Prelude.{List, ℕ};
     ghost use Rattle.lk_region.specs.Regions.{AreOnce};
+    ghost use Rattle.lk_region.specs.Chains.{IsChained};
 
     ghost Value = { List (List ℕ) };
 
     ghost view = { λ region. region.texts };
 
-    ghost invariant = { λ region. AreOnce region.texts };
+    ghost invariant = { λ region. AreOnce region.texts × IsChained region.texts region.latest region.earlier.items };
 }
 
 impl Region {
@@ -35,6 +42,8 @@ impl Region {
     {
         Region {
             texts: Texts::new(alloc),
+            latest: HashMap::new(alloc),
+            earlier: Vec::new(alloc),
         }
     }
 
@@ -49,8 +58,13 @@ impl Region {
         if let Some(number) = self.find(text) {
             return Ok(Mark(number as u64));
         }
+        self.earlier.reserve(1)?;
+        self.latest.reserve(1)?;
         let number = self.texts.len();
         self.texts.push(text)?;
+        // Room was made for both: from here on nothing fails.
+        let earlier = self.latest.insert(hash_of(text), number)?;
+        self.earlier.push_reserved(earlier);
         Ok(Mark(number as u64))
     }
 
@@ -75,6 +89,8 @@ impl Region {
         ensures { self.new ≡ [] }
     {
         self.texts.clear();
+        self.latest.clear();
+        self.earlier.clear();
     }
 
     // The number of a text, where the region has it.
@@ -83,10 +99,12 @@ impl Region {
         ensures found { IfSome result (λ number. HasText self.now number text.now) }
         ensures absent { IfNone result (list_any (is_same_text text.now) self.now ≡ false) }
     {
-        for number in 0..self.texts.len() {
+        let mut candidate = self.latest.get(&hash_of(text)).copied();
+        while let Some(number) = candidate {
             if text == self.texts.get(number) {
                 return Some(number);
             }
+            candidate = self.earlier[number];
         }
         None
     }
