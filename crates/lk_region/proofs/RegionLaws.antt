@@ -4,7 +4,7 @@ use Rattle.std.specs.List.{list_any}
 use Rattle.std.proofs.lemmas.Slice.Eq.{bytes_eq-Decides}
 use Rattle.std.proofs.lemmas.List.{get_or_append_left, get_or_push}
 use Rattle.lk_val.specs.Texts.{is_same_text}
-use Rattle.lk_region.specs.Regions.{text_at, with_text, HasText, AreOnce}
+use Rattle.lk_region.specs.Regions.{text_at, with_text, HasText, KeepsTexts, AreOnce, AreExact}
 
 pub none_once : AreOnce []
 unfolding AreOnce
@@ -64,3 +64,16 @@ module _ (text : List ℕ) (texts : List (List ℕ)) (once : AreOnce texts)
           once a b a_old b_old
           (sym (get_or_append_left texts (text ∷ []) [] a a_old) ∙ same
           ∙ get_or_append_left texts (text ∷ []) [] b b_old)
+
+-- ---- what a caller sees of it
+
+pub same_kept : (texts : List (List ℕ)) → KeepsTexts texts texts
+same_kept texts number within = (within, refl)
+
+pub added_kept : (text : List ℕ) (texts : List (List ℕ)) → KeepsTexts texts (texts ++ text ∷ [])
+added_kept text texts number within =
+    (rw (length-append texts (text ∷ [])) (omega (arith, within)), get_or_append_left texts (text ∷ []) [] number within)
+
+pub once_exact : (texts : List (List ℕ)) → AreOnce texts → AreExact texts
+unfolding AreOnce
+once_exact texts once a b a_in b_in = (λ same. ap (text_at texts) same, λ same. once a b a_in b_in same)

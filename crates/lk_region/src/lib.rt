@@ -9,4 +9,4 @@ mod texts;
 
 pub use column::Column;
 pub use mark::Mark;
-pub use region::{Region, marks_are_texts};
+pub use region::{Region, equal_marks_are_equal_texts};

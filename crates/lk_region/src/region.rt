@@ -1,7 +1,7 @@
 ghost use Rattle.std.specs.Prelude.{◌≡◌, ◌<◌, false, length, [], IfOk, OnOk, OnErr, IfSome, IfNone};
 ghost use Rattle.std.specs.List.{list_any};
 ghost use Rattle.lk_val.specs.Texts.{is_same_text};
-ghost use Rattle.lk_region.specs.Regions.{text_at, with_text, HasText, AreOnce};
+ghost use Rattle.lk_region.specs.Regions.{text_at, with_text, HasText, KeepsTexts, AreExact};
 
 use crate::hash::hash_of;
 use crate::mark::Mark;
@@ -47,12 +47,13 @@ impl Region {
         }
     }
 
-    /// The mark of a text. A text that is new comes behind the others, whose marks stay; after an error the
-    /// region is as before.
-    #[tactic(auto, using(crate::proofs::RegionLaws::text_stays, crate::proofs::RegionLaws::text_comes, crate::proofs::RegionLaws::added_once, crate::proofs::RegionLaws::text_last))]
+    /// The mark of a text: its number, counted from 0. A new text comes behind the others, whose marks stay, and
+    /// a text that is there keeps its mark.
+    #[tactic(auto, using(crate::proofs::RegionLaws::text_stays, crate::proofs::RegionLaws::text_comes, crate::proofs::RegionLaws::text_last, crate::proofs::RegionLaws::same_kept, crate::proofs::RegionLaws::added_kept))]
     pub fn intern(&mut self, text: &[u8]) -> Result<Mark, NoMemory>
         ensures texts { OnOk result (self.new ≡ with_text text.now self.old) }
         ensures mark { IfOk result (λ mark. HasText self.new mark.0 text.now) }
+        ensures kept { KeepsTexts self.old self.new }
         ensures err { OnErr result (self.new ≡ self.old) }
     {
         if let Some(number) = self.find(text) {
@@ -111,8 +112,9 @@ impl Region {
 }
 
 /// Two marks of a region are equal exactly where their texts are. A law: it computes nothing.
-pub fn marks_are_texts(region: &Region)
-    ensures { AreOnce region.now }
+#[tactic(auto, using(crate::proofs::RegionLaws::once_exact))]
+pub fn equal_marks_are_equal_texts(region: &Region)
+    ensures { AreExact region.now }
 {
     let _texts = &region.texts;
 }

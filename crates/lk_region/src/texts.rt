@@ -82,6 +82,7 @@ fn start_of(ends: &[usize], number: usize) -> usize
     if number == 0 { 0 } else { ends[number - 1] }
 }
 
+// The bytes between two places.
 fn part(bytes: &[u8], start: usize, end: usize) -> &[u8]
     requires ordered { start ≤ end }
     requires within { end ≤ length bytes.now }
