@@ -1,4 +1,5 @@
 pub mod SortedLaws
+pub mod KeptLaws
 pub mod ColumnLaws
 pub mod GatheringLaws
 pub mod PartLaws

@@ -13,6 +13,7 @@ use Rattle.lk_types.specs.declared.explore.Op.TheVariants as op
 use Rattle.lk_agg.specs.Tallies.{Tallied}
 use Rattle.lk_agg.specs.declared.fault.AggFault.{AggFault}
 use Rattle.lk_agg.specs.declared.fault.AggFault.TheVariants.{Conflict, NoMemory}
+use Rattle.lk_agg.specs.declared.digest.Digest.{Digest}
 use Rattle.lk_agg.specs.declared.parts.Part.{Part}
 use Rattle.lk_agg.specs.declared.columns.Column.{Column}
 use Rattle.lk_agg.specs.declared.columns.Column.TheVariants.{Count, Sum, SumDistinct, Average, AverageDistinct, Different, Least, Greatest, Nothing}
@@ -63,6 +64,10 @@ twice_after p (q ∷ pairs) = if is_same p.key q.key then Some p.key else twice_
 abbrev pub twice_in : List Pair → Option Value
 twice_in [] = None
 twice_in (p ∷ pairs) = twice_after p pairs
+
+-- what ascending pairs come to
+abbrev pub digest_of : List Pair → Digest
+digest_of pairs = record { count = length pairs; sum = total pairs; values = known_count pairs; twice = twice_in pairs }
 
 -- the first key that stands with two values in what is kept
 abbrev pub twice_of : Column → Option Value

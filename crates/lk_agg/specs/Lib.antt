@@ -1,5 +1,7 @@
 pub mod Given
 pub mod Tallies
+pub mod NumberPair
+pub mod Kept
 pub mod Columns
 pub mod Regular
 pub mod Gathering

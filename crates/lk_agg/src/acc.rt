@@ -143,7 +143,7 @@ pub fn partials(acc: Acc) -> Result<Items<(Items<Value>, Items<Partial>)>, AggFa
 fn copy_values(alloc: Global, values: &[Value]) -> Result<Items<Value>, NoMemory>
     ensures { IfOk result (λ copied. copied ≡ values.now) }
 {
-    let mut copied = Items::new(alloc);
+    let mut copied = Items::from_vec(Vec::with_capacity(alloc, values.len())?);
     for value in values {
         copied.push(value.copy(alloc)?)?;
     }
@@ -153,7 +153,7 @@ fn copy_values(alloc: Global, values: &[Value]) -> Result<Items<Value>, NoMemory
 fn own_values(alloc: Global, values: &[ValueRef<'_>]) -> Result<Items<Value>, NoMemory>
     ensures { IfOk result (λ owned. owned ≡ map value_of_ref values.now) }
 {
-    let mut owned = Items::new(alloc);
+    let mut owned = Items::from_vec(Vec::with_capacity(alloc, values.len())?);
     for value in values {
         owned.push(value.to_value(alloc)?)?;
     }

@@ -7,9 +7,10 @@ ghost use Rattle.lk_agg.specs.Columns.{fresh, with_cells, with_entry, with_given
 ghost use Rattle.lk_agg.specs.Given.{given_cells, key_value_of};
 
 use crate::given::{Given, KeyRef, given_at};
+use crate::pairs::Pairs;
 use crate::sorted::Sorted;
 use crate::tally::Tally;
-use lk_types::{Op, Pair};
+use lk_types::Op;
 use lk_val::{Items, NoMemory, Value, ValueRef};
 use std::alloc::Global;
 use std::cmp::Ordering;
@@ -18,11 +19,11 @@ use std::cmp::Ordering;
 // different values, or its least or greatest value.
 #[derive(Drop)]
 pub(crate) enum Column {
-    Count(Sorted<Pair>, Tally),
-    Sum(Sorted<Pair>, Tally),
-    SumDistinct(Sorted<Pair>, Tally),
-    Average(Sorted<Pair>, Tally),
-    AverageDistinct(Sorted<Pair>, Tally),
+    Count(Pairs, Tally),
+    Sum(Pairs, Tally),
+    SumDistinct(Pairs, Tally),
+    Average(Pairs, Tally),
+    AverageDistinct(Pairs, Tally),
     Different(Sorted<Value>),
     Least(Value),
     Greatest(Value),
@@ -33,7 +34,7 @@ pub(crate) enum Column {
 pub(crate) fn fresh_columns(alloc: Global, ops: &[Op]) -> Result<Items<Column>, NoMemory>
     ensures { IfOk result (λ columns. columns ≡ map fresh ops.now) }
 {
-    let mut columns = Items::new(alloc);
+    let mut columns = Items::from_vec(Vec::with_capacity(alloc, ops.len())?);
     for op in ops {
         columns.push(fresh(alloc, *op))?;
     }
@@ -44,11 +45,11 @@ fn fresh(alloc: Global, op: Op) -> Column
     ensures { result ≡ fresh op }
 {
     match op {
-        Op::Count => Column::Count(Sorted::new(alloc), Tally::new()),
-        Op::Sum => Column::Sum(Sorted::new(alloc), Tally::new()),
-        Op::SumDistinct => Column::SumDistinct(Sorted::new(alloc), Tally::new()),
-        Op::Average => Column::Average(Sorted::new(alloc), Tally::new()),
-        Op::AverageDistinct => Column::AverageDistinct(Sorted::new(alloc), Tally::new()),
+        Op::Count => Column::Count(Pairs::new(alloc), Tally::new()),
+        Op::Sum => Column::Sum(Pairs::new(alloc), Tally::new()),
+        Op::SumDistinct => Column::SumDistinct(Pairs::new(alloc), Tally::new()),
+        Op::Average => Column::Average(Pairs::new(alloc), Tally::new()),
+        Op::AverageDistinct => Column::AverageDistinct(Pairs::new(alloc), Tally::new()),
         Op::CountDistinct => Column::Different(Sorted::new(alloc)),
         Op::Min => Column::Least(Value::Null),
         Op::Max => Column::Greatest(Value::Null),
@@ -123,7 +124,7 @@ fn add_entry(
 // Adds the pair of a row with a key, and tallies one without.
 fn add_key(
     alloc: Global,
-    pairs: &mut Sorted<Pair>,
+    pairs: &mut Pairs,
     tally: &mut Tally,
     op: Op,
     given: KeyRef<'_>,
@@ -139,7 +140,7 @@ fn add_key(
 
 fn add_pair(
     alloc: Global,
-    pairs: &mut Sorted<Pair>,
+    pairs: &mut Pairs,
     op: Op,
     key: ValueRef<'_>,
     value: ValueRef<'_>,
@@ -150,13 +151,10 @@ fn add_pair(
     if is_null(key) {
         return Ok(());
     }
-    pairs.insert(Pair {
-        key: key.to_value(alloc)?,
-        value: unless_counted(alloc, op, value)?,
-    })?;
-    Ok(())
+    pairs.insert(alloc, key, unless_counted(op, value))
 }
 
+#[tactic(auto, using(crate::proofs::KeptLaws::values_exact))]
 fn add_value(alloc: Global, values: &mut Sorted<Value>, value: ValueRef<'_>) -> Result<(), NoMemory>
     ensures { OnOk result (values.new ≡ with_value (value_of_ref value.entry) values.old) }
 {
@@ -167,12 +165,12 @@ fn add_value(alloc: Global, values: &mut Sorted<Value>, value: ValueRef<'_>) -> 
 }
 
 // The value of a pair: what is counted is one fixed value.
-fn unless_counted(alloc: Global, op: Op, value: ValueRef<'_>) -> Result<Value, NoMemory>
-    ensures { IfOk result (λ made. made ≡ unless_counted op (value_of_ref value.entry)) }
+fn unless_counted(op: Op, value: ValueRef<'_>) -> ValueRef<'_>
+    ensures { value_of_ref result ≡ unless_counted op (value_of_ref value.entry) }
 {
     match op {
-        Op::Count => Ok(Value::Null),
-        _ => value.to_value(alloc),
+        Op::Count => ValueRef::Null,
+        _ => value,
     }
 }
 

@@ -5,10 +5,13 @@
 mod acc;
 mod cells;
 mod columns;
+mod digest;
 mod fault;
 mod given;
 mod groups;
 mod laws;
+mod number_pair;
+mod pairs;
 mod parts;
 mod sorted;
 mod tally;
