@@ -1,6 +1,6 @@
 -- Pairs that are kept as numbers.
-use Rattle.std.proofs.Common.{◌≡◌, List, [], ◌∷◌, map, refl, sym, ap, ◌∙◌, subst}
-use Rattle.std.specs.Prelude.{Option, Some, None}
+use Rattle.std.proofs.Common.{◌≡◌, List, [], ◌∷◌, map, refl, sym, ap, subst}
+use Rattle.std.specs.Prelude.{Some}
 use Rattle.std.specs.Ordering.{match_ordering}
 use Rattle.std.specs.declared.cmp.Ordering.TheVariants.{Less, Equal, Greater}
 use Rattle.lk_val.specs.Sets.{IsExactOrder, set_of, with_item}
@@ -10,7 +10,6 @@ use Rattle.lk_val.specs.declared.value.Value.{Value}
 use Rattle.lk_val.specs.declared.value.Value.TheVariants.{Null, Num}
 use Rattle.lk_val.proofs.SetLaws.{set_of-map}
 use Rattle.lk_types.specs.PairOrder.{pair_cmp}
-use Rattle.lk_types.specs.declared.answer.Pair.{Pair}
 use Rattle.lk_agg.specs.NumberPair.{number_pair_cmp, numbers_of, pair_of_numbers}
 use Rattle.lk_agg.specs.declared.number_pair.NumberPair.{NumberPair}
 

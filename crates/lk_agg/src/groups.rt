@@ -126,7 +126,7 @@ fn conflict_at(place: usize, key: Value) -> AggFault
 fn cells_of(alloc: Global, parts: Items<Part>) -> Result<Items<Cell>, NoMemory>
     ensures { IfOk result (λ cells. cells ≡ map cell_of parts) }
 {
-    let mut cells = Items::new(alloc);
+    let mut cells = Items::from_vec(Vec::with_capacity(alloc, parts.len())?);
     for part in parts.into_vec() {
         cells.push(cell_of(part))?;
     }
@@ -136,7 +136,7 @@ fn cells_of(alloc: Global, parts: Items<Part>) -> Result<Items<Cell>, NoMemory>
 fn partials_of(alloc: Global, parts: Items<Part>) -> Result<Items<Partial>, NoMemory>
     ensures { IfOk result (λ partials. partials ≡ map kept_of parts) }
 {
-    let mut partials = Items::new(alloc);
+    let mut partials = Items::from_vec(Vec::with_capacity(alloc, parts.len())?);
     for part in parts.into_vec() {
         partials.push(kept_of(part))?;
     }
