@@ -1,12 +1,13 @@
 #!/bin/sh
 # Times an accumulator of a count, an average and a sum over keys on 1,000,000 rows in 1, 1,000 and 100,000 groups, and
-# plain Rust that does the same with ordered maps of groups and of keys. With each line stands the most memory that its
-# process took. A measurement, not a test: it builds a program in a folder of its own, which proves it first.
+# plain Rust that does the same with ordered maps of groups and of keys. The keys come ascending twice, or scattered.
+# With each line stands the most memory that its process took. A measurement, not a test: it builds a program in a
+# folder of its own, which proves it first.
 crates='lk_val lk_postfix lk_types lk_semantics lk_agg'
 uses='lk_val lk_types lk_agg'
 . "$(dirname "$0")/workspace.sh"
 cat >"$work/crates/timing/src/main.rt" <<'END'
-//! Times an accumulator on rows in so many groups, the number that the standard input says.
+//! Times an accumulator on rows in so many groups, with keys that ascend or are scattered, as the standard input says.
 #![tactic(auto)]
 
 use lk_agg::{Acc, AccShape, AggFault, KeyRef, Op};
@@ -16,6 +17,8 @@ use std::io;
 use std::time::Instant;
 
 const ROWS: u32 = 1_000_000;
+
+const KEYS: u32 = 500_000;
 
 fn accumulator(alloc: Global) -> Result<Acc, NoMemory> {
     let mut ops = Items::new(alloc);
@@ -35,9 +38,15 @@ fn group_of(key: u32, groups: u32) -> u32 {
     place.wrapping_mul(7_919).checked_rem(groups).unwrap_or(0)
 }
 
-// Two rows have each key, and the same value at it.
-fn add_row(acc: &mut Acc, groups: u32, row: u32) -> Result<(), NoMemory> {
-    let key = row % (ROWS / 2);
+// Two rows have each key.
+fn key_of(row: u32, scattered: bool) -> u32 {
+    let key = row % KEYS;
+    if scattered { key.wrapping_mul(7_919) % KEYS } else { key }
+}
+
+// The value is the same at both rows of a key.
+fn add_row(acc: &mut Acc, groups: u32, scattered: bool, row: u32) -> Result<(), NoMemory> {
+    let key = key_of(row, scattered);
     let group = [number(group_of(key, groups))];
     let cells = [
         KeyRef { key: None, value: ValueRef::Null, counts: true },
@@ -47,27 +56,29 @@ fn add_row(acc: &mut Acc, groups: u32, row: u32) -> Result<(), NoMemory> {
     acc.add_refs(&group, &cells, u64::from(row))
 }
 
-fn add_rows(acc: &mut Acc, groups: u32) -> Result<(), NoMemory> {
+fn add_rows(acc: &mut Acc, groups: u32, scattered: bool) -> Result<(), NoMemory> {
     for row in 0..ROWS {
-        add_row(acc, groups, row)?;
+        add_row(acc, groups, scattered, row)?;
     }
     Ok(())
 }
 
-fn groups_of(alloc: Global, groups: u32) -> Result<usize, AggFault> {
+fn groups_of(alloc: Global, groups: u32, scattered: bool) -> Result<usize, AggFault> {
     let mut acc = accumulator(alloc)?;
-    add_rows(&mut acc, groups)?;
+    add_rows(&mut acc, groups, scattered)?;
     Ok(acc.finish()?.len())
 }
 
 fn main(rt: HostRuntime) -> io::Result<()> {
     for line in rt.lines(rt.alloc()) {
-        let groups = line?.parse::<u32>().unwrap_or(1).max(1);
+        let line = line?;
+        let (groups, keys) = line.split_once(' ').unwrap_or((line.as_str(), "ascending"));
+        let groups = groups.parse::<u32>().unwrap_or(1).max(1);
         let begun = Instant::now(&rt)?;
-        let found = groups_of(rt.alloc(), groups);
+        let found = groups_of(rt.alloc(), groups, keys == "scattered");
         let took = begun.elapsed(&rt)?.as_millis();
         match found {
-            Ok(count) => println!(&rt; "lk_agg: {count} groups, {took} ms")?,
+            Ok(count) => println!(&rt; "lk_agg: {count} groups, {keys} keys, {took} ms")?,
             Err(_) => println!(&rt; "lk_agg: no answer")?,
         }
     }
@@ -80,6 +91,8 @@ use std::collections::BTreeMap;
 use std::time::Instant;
 
 const ROWS: u32 = 1_000_000;
+
+const KEYS: u32 = 500_000;
 
 #[derive(Clone, Copy, PartialEq, Eq, PartialOrd, Ord)]
 enum Value {
@@ -104,11 +117,14 @@ struct Group {
 fn main() {
     let mut line = String::new();
     std::io::stdin().read_line(&mut line).unwrap();
-    let groups: u32 = line.trim().parse().unwrap();
+    let (groups, keys) = line.trim().split_once(' ').unwrap();
+    let groups: u32 = groups.parse().unwrap();
+    let scattered = keys == "scattered";
     let begun = Instant::now();
     let mut all: BTreeMap<Vec<Value>, Group> = BTreeMap::new();
     for row in 0..ROWS {
-        let key = row % (ROWS / 2);
+        let key = row % KEYS;
+        let key = if scattered { key.wrapping_mul(7_919) % KEYS } else { key };
         let name = vec![number((key % groups).wrapping_mul(7_919) % groups)];
         let group = all.entry(name).or_default();
         group.count += 1;
@@ -127,13 +143,15 @@ fn main() {
         total += group.keys.values().map(|v| if let Value::Num(n) = v { i128::from(*n) } else { 0 }).sum::<i128>();
         assert!(!group.conflict);
     }
-    println!("plain Rust: {} groups, {} ms, {total}", all.len(), begun.elapsed().as_millis());
+    println!("plain Rust: {} groups, {keys} keys, {} ms, {total}", all.len(), begun.elapsed().as_millis());
 }
 END
 (cd "$work" && rustc -O -o plain plain.rs) || exit 1
 (cd "$work/crates/timing" && touch stdin && rt run) >"$work/build.log" 2>&1 || { tail -n 40 "$work/build.log"; exit 1; }
 for groups in 1 1000 100000; do
-    for program in "$work/crates/timing/out/timing" "$work/plain"; do
-        echo "$groups" | /usr/bin/time -f '  at most %M KB of memory' "$program"
+    for keys in ascending scattered; do
+        for program in "$work/crates/timing/out/timing" "$work/plain"; do
+            echo "$groups $keys" | /usr/bin/time -f '  at most %M KB of memory' "$program"
+        done
     done
 done

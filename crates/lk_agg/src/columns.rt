@@ -14,6 +14,7 @@ use lk_types::Op;
 use lk_val::{Items, NoMemory, Value, ValueRef};
 use std::alloc::Global;
 use std::cmp::Ordering;
+use std::mem::size_of;
 
 // What a group keeps for a measure: the pairs of its keys and values beside a tally of the rows without keys, its
 // different values, or its least or greatest value.
@@ -29,6 +30,9 @@ pub(crate) enum Column {
     Greatest(Value),
     Nothing,
 }
+
+// A group of many takes this for each measure, beside its pairs.
+const _: () = prove!(size_of::<Column>() == 80);
 
 // A column for each measure, before any row.
 pub(crate) fn fresh_columns(alloc: Global, ops: &[Op]) -> Result<Items<Column>, NoMemory>

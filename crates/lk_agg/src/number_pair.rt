@@ -7,13 +7,16 @@ ghost use Rattle.lk_agg.specs.NumberPair.{number_or_null, number_pair_cmp, numbe
 use lk_types::Pair;
 use lk_val::{Num, Value, ValueRef};
 use std::cmp::Ordering;
+use std::mem::size_of;
 
-// A pair of which the key is a number and the value a number or null, in 24 bytes. They are ordered as the pairs are.
+// A pair of which the key is a number and the value a number or null. They are ordered as the pairs are.
 #[derive(Clone, Copy)]
 pub(crate) struct NumberPair {
     key: i64,
     value: Option<i64>,
 }
+
+const _: () = prove!(size_of::<NumberPair>() == 24);
 
 // The key and the value as numbers, where they are such.
 pub(crate) fn numbers_of(key: ValueRef<'_>, value: ValueRef<'_>) -> Option<NumberPair>
