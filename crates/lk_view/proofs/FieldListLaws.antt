@@ -2,8 +2,8 @@
 use Rattle.std.proofs.Common.{ℕ, List, [], ◌∷◌, ◌++◌}
 use Rattle.lk_read.specs.declared.tree.Item.{Item}
 use Rattle.lk_objects.specs.declared.field.DeclaredField.{DeclaredField}
-use Rattle.lk_view.specs.Blocks.{block_items, block_name}
-use Rattle.lk_view.specs.Fields.{IsField}
+use Rattle.lk_written.specs.Blocks.{block_items, block_name}
+use Rattle.lk_view_field.specs.Fields.{IsField}
 use Rattle.lk_view.specs.Views.{AreFields}
 
 pub one_more : (view : List ℕ) (items : List Item) (fields : List DeclaredField) (item : Item) (field : DeclaredField)

@@ -1,4 +1,2 @@
-pub mod EntryLaws
 pub mod FieldListLaws
-pub mod FoldLaws
 pub mod InsertLaws

@@ -1,5 +1,5 @@
 -- What a native derived table says. (Looker, LookML reference: derived_table, explore_source, column)
-use Rattle.std.specs.Prelude.{◌≡◌, ℕ, zero, suc, ◌+◌, Bool, ◌&&◌, if◌then◌else◌, List, [], ◌∷◌, ◌++◌, map, length, Option, Some, None, codes}
+use Rattle.std.specs.Prelude.{◌≡◌, ℕ, Bool, ◌&&◌, if◌then◌else◌, List, [], ◌∷◌, ◌++◌, map, length, Option, Some, None, codes}
 use Rattle.std.specs.List.{filter, list_any}
 use Rattle.std.specs.Option.{option_and_then, option_or}
 use Rattle.lk_val.specs.Texts.{is_same_text}
@@ -12,8 +12,9 @@ use Rattle.lk_params.specs.Parameters.{last_named}
 use Rattle.lk_params.specs.Picking.{firsts}
 use Rattle.lk_params.specs.Values.{scalar, title_of}
 use Rattle.lk_written.specs.Values.{text_at, filters_at}
+use Rattle.lk_written.specs.Entries.{filter_entries}
 use Rattle.lk_written.specs.ReadFilters.{AreFilters}
-use Rattle.lk_view.specs.Blocks.{block_items, block_name, is_block_of}
+use Rattle.lk_written.specs.Blocks.{block_items, block_name, is_block_of}
 
 -- ---- the source
 
@@ -62,11 +63,6 @@ abbrev pub columns_in : List Item → List DeclaredColumn
 columns_in source = map (column_of source) (firsts is_same_text (map block_name (filter is_column source)))
 
 -- ---- what the source names, in the order of the text
-
--- the numbers from one on, as many as asked for
-abbrev pub filter_entries : ℕ → ℕ → List Entry
-filter_entries first zero = []
-filter_entries first (suc n) = entry.Filter first ∷ filter_entries (first + 1) n
 
 -- a column where it first stands
 abbrev pub column_entries : List Item → List Item → Item → List Entry

@@ -5,7 +5,7 @@ use Rattle.std.specs.Cmp.Lexicographic.{slice_cmp}
 use Rattle.std.specs.List.{filter, fold, insert, position_or_len}
 use Rattle.lk_val.specs.Texts.{is_same_text}
 use Rattle.lk_read.specs.declared.tree.Item.{Item}
-use Rattle.lk_view.specs.Blocks.{block_name, is_block_of}
+use Rattle.lk_written.specs.Blocks.{block_name, is_block_of}
 
 -- a dimension, a dimension group or a measure with a name
 abbrev pub is_field : Item → Bool

@@ -1,9 +1,5 @@
-pub mod Blocks
 pub mod DerivedTables
-pub mod FieldFindings
 pub mod FieldOrder
-pub mod FieldValues
-pub mod Fields
 pub mod Tables
 pub mod ViewFindings
 pub mod Views

@@ -1,6 +1,6 @@
 -- The faults of a view that its own parameters show, those of its fields aside. (lookd)
 use Rattle.std.specs.Prelude.{ℕ, Bool, true, false, not, ◌||◌, ◌&&◌, if◌then◌else◌, List, [], ◌∷◌, ◌++◌, Option, Some, None, is_some, codes}
-use Rattle.std.specs.List.{flat_map, position}
+use Rattle.std.specs.List.{flat_map}
 use Rattle.std.specs.Option.{option_and_then}
 use Rattle.lk_val.specs.Texts.{is_same_text}
 use Rattle.lk_read.specs.declared.tree.Item.{Item}
@@ -17,9 +17,10 @@ use Rattle.lk_params.specs.Known.{along, block_findings, item_findings}
 use Rattle.lk_params.specs.Parameters.{items_of, last_named}
 use Rattle.lk_params.specs.Values.{code, scalar, words}
 use Rattle.lk_written.specs.Values.{is_missing, is_no_truth, is_text}
+use Rattle.lk_written.specs.SchemaNames.{table_number}
 use Rattle.lk_written.specs.ValueFindings.{wrong}
 use Rattle.lk_written.specs.FilterFindings.{filters_findings}
-use Rattle.lk_view.specs.Blocks.{block_items, is_named_block}
+use Rattle.lk_written.specs.Blocks.{block_items, is_named_block}
 use Rattle.lk_view.specs.Tables.{table_named}
 
 -- ---- the stored table
@@ -30,10 +31,6 @@ table_text view items = named_by (last_named (codes "sql_table_name") items) whe
   named_by : Option Item → Option (List ℕ)
   named_by None = Some view
   named_by (Some item) = option_and_then table_named (code item.value)
-
--- the number of a table in the schema
-abbrev pub table_number : Schema → List ℕ → Option ℕ
-table_number schema name = position (λ table. is_same_text table.name name) schema.tables
 
 abbrev pub is_derived : List Item → Bool
 is_derived items = is_some (last_named (codes "derived_table") items)

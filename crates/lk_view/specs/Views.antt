@@ -9,11 +9,12 @@ use Rattle.lk_objects.specs.declared.view.Rows.{Rows}
 use Rattle.lk_objects.specs.declared.view.Rows.TheVariants as rows
 use Rattle.lk_params.specs.Findings.{soonest}
 use Rattle.lk_params.specs.Parameters.{last_named}
-use Rattle.lk_view.specs.Blocks.{block_items, block_name}
+use Rattle.lk_written.specs.Blocks.{block_items, block_name}
+use Rattle.lk_written.specs.SchemaNames.{table_number}
 use Rattle.lk_view.specs.DerivedTables.{IsDerived}
 use Rattle.lk_view.specs.FieldOrder.{fields_in}
-use Rattle.lk_view.specs.Fields.{IsField}
-use Rattle.lk_view.specs.ViewFindings.{table_number, table_text, view_findings}
+use Rattle.lk_view_field.specs.Fields.{IsField}
+use Rattle.lk_view.specs.ViewFindings.{table_text, view_findings}
 
 -- each field is what its block says
 abbrev pub AreFields : List ℕ → List Item → List DeclaredField → Type 0

@@ -6,11 +6,10 @@ ghost use Rattle.lk_params.specs.Values.{scalar};
 ghost use Rattle.lk_val.specs.Texts.{is_same_text};
 ghost use Rattle.lk_view.specs.ViewFindings.{derived_at, derived_findings, field_findings, source_findings, table_item_findings, within, wrong_within};
 
-use crate::blocks::{block_items, is_named_block};
 use lk_params::{Findings, Order, Owner, find_in_item, parameters_of, scalar};
 use lk_read::{Item, Node};
 use lk_val::NoMemory;
-use lk_written::{add_wrong_within, find_in_filters, is_missing};
+use lk_written::{add_wrong_within, block_items, find_in_filters, is_missing, is_named_block};
 use std::alloc::Global;
 use std::slice;
 

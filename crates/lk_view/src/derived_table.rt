@@ -2,15 +2,17 @@ ghost use Rattle.std.specs.Prelude.{◌≡◌, ◌+◌, ◌++◌, IfOk, map, opt
 ghost use Rattle.std.specs.Option.{option_and_then};
 ghost use Rattle.std.specs.List.{filter, list_any};
 ghost use Rattle.lk_params.specs.Values.{scalar};
-ghost use Rattle.lk_view.specs.Blocks.{block_items, block_name};
-ghost use Rattle.lk_view.specs.DerivedTables.{IsDerived, column_entries, column_of, columns_in, entries_in, field_of, filter_entries, given_by, is_column, is_column_of, last_field, source_items, source_name};
+ghost use Rattle.lk_written.specs.Blocks.{block_items, block_name};
+ghost use Rattle.lk_view.specs.DerivedTables.{IsDerived, column_entries, column_of, columns_in, entries_in, field_of, given_by, is_column, is_column_of, last_field, source_items, source_name};
 
-use crate::blocks::{block_items, block_name, is_block_of};
 use lk_objects::{DeclaredColumn, DerivedTable, Entry};
 use lk_params::{firsts, last_named, scalar, titled};
 use lk_read::Item;
 use lk_val::{Items, NoMemory, Text};
-use lk_written::{filters_at, read_filters, text_at};
+use lk_written::{
+    add_filter_entries, block_items, block_name, copied_text, filters_at, is_block_of,
+    read_filters, text_at,
+};
 use std::alloc::Global;
 use std::slice;
 
@@ -22,21 +24,12 @@ pub fn read_derived(alloc: Global, items: &[Item]) -> Result<DerivedTable, NoMem
 {
     let source = source_items(items);
     Ok(DerivedTable {
-        explore: copied(alloc, source_name(items))?,
+        explore: copied_text(alloc, source_name(items))?,
         columns: columns_in(alloc, source)?,
         filters: read_filters(alloc, source)?,
-        datagroup: copied(alloc, text_at("datagroup_trigger", items))?,
+        datagroup: copied_text(alloc, text_at("datagroup_trigger", items))?,
         entries: entries_in(alloc, source)?,
     })
-}
-
-fn copied(alloc: Global, text: Option<&Text>) -> Result<Option<Text>, NoMemory>
-    ensures { IfOk result (λ copy. copy ≡ option_map (λ t. t.now) text.entry) }
-{
-    match text {
-        None => Ok(None),
-        Some(text) => Ok(Some(text.copy(alloc)?)),
-    }
 }
 
 fn source_name(items: &[Item]) -> Option<&Text>
@@ -161,7 +154,7 @@ fn entries_in(alloc: Global, source: &[Item]) -> Result<Items<Entry>, NoMemory>
             add_column(alloc, source, &source[..place], item, &mut entries)?;
         } else {
             let more = filters_at(alloc, slice::from_ref(item))?.len();
-            filters = add_filters(filters, more, &mut entries)?;
+            filters = add_filter_entries(filters, more, &mut entries)?;
         }
     }
     Ok(entries)
@@ -190,26 +183,4 @@ fn has_column(name: &str, items: &[Item]) -> bool
     ensures { result ≡ list_any (is_column_of name.now) items.now }
 {
     items.iter().any(|item| is_column_of(name, item))
-}
-
-// Filters, numbered from the first one on; the next number is answered. More numbers than there are want memory.
-fn add_filters(first: u32, count: usize, entries: &mut Items<Entry>) -> Result<u32, NoMemory>
-    ensures numbered { IfOk result (λ _. entries.new ≡ entries.old ++ filter_entries first count) }
-    ensures next { IfOk result (λ next. next ≡ first + count) }
-{
-    let mut number = first;
-    for _done in 0..count {
-        entries.push(Entry::Filter(number))?;
-        number = next_number(number)?;
-    }
-    Ok(number)
-}
-
-fn next_number(number: u32) -> Result<u32, NoMemory>
-    ensures { IfOk result (λ next. next ≡ number + 1) }
-{
-    match number.checked_add(1) {
-        Some(next) => Ok(next),
-        None => Err(NoMemory),
-    }
 }

@@ -2,9 +2,9 @@ ghost use Rattle.std.specs.Prelude.{◌≡◌, ◌≤◌, IfOk, length, map};
 ghost use Rattle.std.specs.List.{position_or_len};
 ghost use Rattle.lk_view.specs.FieldOrder.{fields_in, goes_before, is_field, kind_rank, put_in};
 
-use crate::blocks::{block_name, is_block_of};
 use lk_read::Item;
 use lk_val::NoMemory;
+use lk_written::{block_name, is_block_of};
 use std::alloc::Global;
 
 /// The dimensions, dimension groups and measures of a view, by the bytes of their names; of one name dimensions before

@@ -2,19 +2,20 @@ ghost use Rattle.std.specs.Prelude.{◌≡◌, IfOk, map};
 ghost use Rattle.std.specs.Option.{option_and_then};
 ghost use Rattle.lk_params.specs.Parameters.{items_of};
 ghost use Rattle.lk_view.specs.FieldOrder.{fields_in};
-ghost use Rattle.lk_view.specs.ViewFindings.{table_number, table_text};
+ghost use Rattle.lk_view.specs.ViewFindings.{table_text};
+ghost use Rattle.lk_written.specs.SchemaNames.{table_number};
 ghost use Rattle.lk_view.specs.Views.{AreFields, AreRows, IsView};
 
-use crate::blocks::block_items;
 use crate::derived_table::read_derived;
-use crate::field::read_field;
 use crate::field_order::fields_in;
-use crate::view_findings::{first_of_view, table_number, table_text};
+use crate::view_findings::{first_of_view, table_text};
 use lk_objects::{DeclaredField, DeclaredView, Rows};
 use lk_params::{last_named, parameters_of};
 use lk_read::{Item, Tree};
 use lk_types::Schema;
 use lk_val::{Items, NoMemory, Text};
+use lk_view_field::read_field;
+use lk_written::{block_items, table_number};
 use std::alloc::Global;
 
 /// A view, read from its parameters: its fields in order, where its rows come from, and the first fault that its own
@@ -77,7 +78,7 @@ fn stored_table(
 {
     match table_text(alloc, view, items)? {
         None => Ok(None),
-        Some(name) => match table_number(schema, name) {
+        Some(name) => match table_number(schema, name.as_bytes()) {
             None => Ok(None),
             Some(number) => Ok(Some(u32::try_from(number).map_err(|_| NoMemory)?)),
         },

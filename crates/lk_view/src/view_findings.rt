@@ -4,9 +4,8 @@ ghost use Rattle.std.specs.List.{fold, flat_map};
 ghost use Rattle.lk_params.specs.Findings.{sooner, soonest};
 ghost use Rattle.lk_params.specs.Values.{code};
 ghost use Rattle.lk_view.specs.Tables.{table_named};
-ghost use Rattle.lk_view.specs.ViewFindings.{is_field_kind, is_wrong_value, table_findings, table_number, table_text, value_findings, view_findings};
+ghost use Rattle.lk_view.specs.ViewFindings.{is_field_kind, is_wrong_value, table_findings, table_text, value_findings, view_findings};
 
-use crate::blocks::is_named_block;
 use crate::derived_findings::find_in_derived;
 use crate::table::table_named;
 use lk_params::{
@@ -15,7 +14,7 @@ use lk_params::{
 use lk_read::{Item, Node};
 use lk_types::Schema;
 use lk_val::NoMemory;
-use lk_written::{add_wrong, is_no_truth, is_text};
+use lk_written::{add_wrong, is_named_block, is_no_truth, is_text, table_number};
 use std::alloc::Global;
 
 /// The first fault of a view that its own parameters show, those of its fields aside: what may not stand there, values
@@ -133,17 +132,6 @@ pub fn table_text<'a>(
     }
 }
 
-/// The number of a table in the schema.
-pub fn table_number(schema: &Schema, name: &str) -> Option<usize>
-    ensures { result ≡ table_number schema.now name.now }
-{
-    schema
-        .tables
-        .as_slice()
-        .iter()
-        .position(|table| table.name.as_str() == name)
-}
-
 fn find_table(
     alloc: Global,
     schema: &Schema,
@@ -158,7 +146,7 @@ fn find_table(
         return Ok(());
     }
     if let Some(name) = table_text(alloc, view, items)? {
-        if table_number(schema, name).is_none() {
+        if table_number(schema, name.as_bytes()).is_none() {
             findings.add(Finding::new(
                 alloc,
                 Order::Object,

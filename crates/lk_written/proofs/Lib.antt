@@ -11,3 +11,4 @@ pub mod MeasurePasses
 pub mod FilterLaws
 pub mod OneCode
 pub mod OneFilter
+pub mod EntryLaws

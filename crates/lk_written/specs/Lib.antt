@@ -1,4 +1,7 @@
 pub mod Values
+pub mod Blocks
+pub mod Entries
+pub mod SchemaNames
 pub mod ValueFindings
 pub mod FilterFindings
 pub mod CodeFindings

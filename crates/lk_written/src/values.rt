@@ -1,9 +1,10 @@
-ghost use Rattle.std.specs.Prelude.{◌≡◌, option_map};
+ghost use Rattle.std.specs.Prelude.{◌≡◌, IfOk, option_map};
 ghost use Rattle.lk_written.specs.Values.{code_at, is_missing, is_no_truth, is_text, is_yes, text_at};
 
 use lk_params::{code, last_named, scalar};
 use lk_read::Item;
-use lk_val::Text;
+use lk_val::{NoMemory, Text};
+use std::alloc::Global;
 
 /// The text of a parameter that counts, if it is a word or a string.
 pub fn text_at<'a>(name: &str, items: &'a [Item]) -> Option<&'a Text>
@@ -60,4 +61,14 @@ pub fn is_missing(name: &str, items: &[Item]) -> bool
     ensures { result ≡ is_missing name.now items.now }
 {
     last_named(name, items).is_none()
+}
+
+/// A text of its own, where there is one.
+pub fn copied_text(alloc: Global, text: Option<&Text>) -> Result<Option<Text>, NoMemory>
+    ensures { IfOk result (λ copy. copy ≡ option_map (λ t. t.now) text.entry) }
+{
+    match text {
+        None => Ok(None),
+        Some(text) => Ok(Some(text.copy(alloc)?)),
+    }
 }

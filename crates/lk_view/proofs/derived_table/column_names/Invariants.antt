@@ -1,6 +1,6 @@
 use Rattle.std.proofs.Common.{◌≡◌, ◌++◌, map, drop}
 use Rattle.std.specs.List.{filter}
-use Rattle.lk_view.specs.Blocks.{block_name}
+use Rattle.lk_written.specs.Blocks.{block_name}
 use Rattle.lk_view.specs.DerivedTables.{is_column}
 use Rattle.lk_view.proofs.derived_table.column_names.Given as goal
 

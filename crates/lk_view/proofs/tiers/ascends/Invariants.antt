@@ -1,6 +1,0 @@
-use Rattle.std.proofs.Common.{◌≡◌, drop}
-use Rattle.lk_view.specs.FieldValues.{ascends}
-use Rattle.lk_view.proofs.tiers.ascends.Given as goal
-
-abbrev pub invariant-loop-place : goal.invariant-loop-place
-invariant-loop-place l = ascends (drop l.place l.numbers) ≡ ascends l.numbers

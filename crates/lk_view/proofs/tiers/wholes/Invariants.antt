@@ -1,7 +1,0 @@
-use Rattle.std.proofs.Common.{◌≡◌, drop}
-use Rattle.lk_params.specs.Values.{prefixed}
-use Rattle.lk_view.specs.FieldValues.{wholes}
-use Rattle.lk_view.proofs.tiers.wholes.Given as goal
-
-abbrev pub invariant-loop-text : goal.invariant-loop-text
-invariant-loop-text l = prefixed l.numbers (wholes (drop l.text-index l.texts)) ≡ wholes l.texts

@@ -1,0 +1,3 @@
+pub mod FieldFindings
+pub mod FieldValues
+pub mod Fields
