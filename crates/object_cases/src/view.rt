@@ -1,17 +1,9 @@
+use crate::parts::{add_code, add_entry, add_filters, add_number, add_optional, finished};
 use case_lines::CaseFault;
-use lk_objects::{
-    Code, DeclaredField, DeclaredView, DerivedTable, DimensionType, Entry, FieldSort, Reference,
-    Rows,
-};
+use lk_objects::{DeclaredField, DeclaredView, DerivedTable, DimensionType, FieldSort, Rows};
 use lk_types::{Frame, Op};
-use lk_val::{Bytes, FaultLine, Items, Text};
+use lk_val::{Bytes, Text};
 use std::alloc::Global;
-
-/// A fault's line, without its line feed.
-pub fn answer_fault(alloc: Global, fault: &FaultLine) -> Result<Text, CaseFault> {
-    let line = fault.print(alloc)?;
-    Ok(Text::from_str(alloc, line.as_str().trim_end())?)
-}
 
 /// What a view says: where its rows come from, and its fields.
 pub fn answer_view(alloc: Global, view: &DeclaredView) -> Result<Text, CaseFault> {
@@ -21,7 +13,7 @@ pub fn answer_view(alloc: Global, view: &DeclaredView) -> Result<Text, CaseFault
         line.append(b"; ")?;
         add_field(alloc, field, &mut line)?;
     }
-    Ok(Text::from_utf8(alloc, line.as_slice())?.ok_or(CaseFault::NoSuchCase)?)
+    finished(alloc, &line)
 }
 
 fn add_rows(alloc: Global, rows: &Rows, line: &mut Bytes) -> Result<(), CaseFault> {
@@ -33,11 +25,6 @@ fn add_rows(alloc: Global, rows: &Rows, line: &mut Bytes) -> Result<(), CaseFaul
         Rows::Stored(None) => Ok(line.append(b"no table")?),
         Rows::Derived(table) => add_derived(alloc, table, line),
     }
-}
-
-fn add_number(alloc: Global, number: i64, line: &mut Bytes) -> Result<(), CaseFault> {
-    let text = format!(in alloc; "{number}")?;
-    Ok(line.append(text.as_bytes())?)
 }
 
 fn add_derived(alloc: Global, table: &DerivedTable, line: &mut Bytes) -> Result<(), CaseFault> {
@@ -59,25 +46,6 @@ fn add_derived(alloc: Global, table: &DerivedTable, line: &mut Bytes) -> Result<
     Ok(())
 }
 
-fn add_optional(text: &Option<Text>, line: &mut Bytes) -> Result<(), CaseFault> {
-    match text {
-        None => Ok(line.append(b"none")?),
-        Some(text) => Ok(line.append(text.as_bytes())?),
-    }
-}
-
-fn add_entry(alloc: Global, entry: &Entry, line: &mut Bytes) -> Result<(), CaseFault> {
-    match entry {
-        Entry::Dimension(name) | Entry::Measure(name) | Entry::Column(name) => {
-            Ok(line.append(name.as_bytes())?)
-        }
-        Entry::Filter(number) => {
-            line.append(b"#")?;
-            add_number(alloc, i64::from(*number), line)
-        }
-    }
-}
-
 // A field with its sort, the names in its `sql`, and what else it has.
 fn add_field(alloc: Global, field: &DeclaredField, line: &mut Bytes) -> Result<(), CaseFault> {
     line.append(sort_name(field.sort).as_bytes())?;
@@ -96,43 +64,7 @@ fn add_field(alloc: Global, field: &DeclaredField, line: &mut Bytes) -> Result<(
         line.append(b" ")?;
         add_number(alloc, *bound, line)?;
     }
-    for filter in field.filters.as_slice() {
-        line.append(b" ")?;
-        line.append(filter.name.as_bytes())?;
-        line.append(b": ")?;
-        line.append(filter.text.as_bytes())?;
-    }
-    Ok(())
-}
-
-fn add_code(code: &Code, line: &mut Bytes) -> Result<(), CaseFault> {
-    match code {
-        Code::Expr(written) => add_references(&written.references, line),
-        Code::Number(written) => add_references(&written.references, line),
-        Code::Absent | Code::Liquid | Code::Syntax(_) | Code::Call(_) => Ok(()),
-    }
-}
-
-fn add_references(references: &Items<Reference>, line: &mut Bytes) -> Result<(), CaseFault> {
-    line.append(b" (")?;
-    for (place, reference) in references.as_slice().iter().enumerate() {
-        if place > 0 {
-            line.append(b" ")?;
-        }
-        match reference {
-            Reference::Own(name) => line.append(name.as_bytes())?,
-            Reference::Of(view, name) => {
-                line.append(view.as_bytes())?;
-                line.append(b".")?;
-                line.append(name.as_bytes())?;
-            }
-            Reference::Column(name) => {
-                line.append(b"/")?;
-                line.append(name.as_bytes())?;
-            }
-        }
-    }
-    Ok(line.append(b")")?)
+    add_filters(field.filters.as_slice(), line)
 }
 
 fn sort_name(sort: FieldSort) -> &'static str {

@@ -1,10 +1,12 @@
-//! Cases of views: a line of the input is a view's text over the table `t` with the column `c`, as
-//! `view: t { dimension: id { type: number } }`, and its answer is a line: the first fault that the view or one of its
-//! fields shows by itself, or else what they say.
+//! Cases of views, explores and datagroups: a line of the input is the text of one over the table `t` with the column `c`,
+//! as `view: t { dimension: id { type: number } }`, and its answer is a line: the first fault that it or one of its blocks
+//! shows by itself, or else what they say.
 #![tactic(auto)]
 
-mod answer;
 mod case;
+mod explore;
+mod parts;
+mod view;
 
 use case::answer_line;
 use std::io;

@@ -1,0 +1,8 @@
+use Rattle.std.proofs.Common.{◌≡◌, ◌++◌, drop}
+use Rattle.std.specs.List.{flat_map}
+use Rattle.lk_explore.specs.Triggers.{spaced}
+use Rattle.lk_explore.proofs.trigger.spaced_text.Given as goal
+
+abbrev pub invariant-loop-byte : goal.invariant-loop-byte
+invariant-loop-byte l =
+    l.bytes.items ++ flat_map spaced (drop l.byte-index l.text) ≡ flat_map spaced l.text

@@ -1,0 +1,185 @@
+ghost use Rattle.std.specs.Prelude.{◌≡◌, IfOk, false, true};
+ghost use Rattle.std.specs.List.{filter};
+ghost use Rattle.lk_params.specs.Findings.{soonest, sooner};
+ghost use Rattle.lk_params.specs.Values as values;
+ghost use Rattle.lk_written.specs.Codes.{IsCode};
+ghost use Rattle.lk_explore.specs.ExploreFilters.{AreExploreFilters, IsAlways, IsExploreFilter, access_findings, access_of, always_findings, is_filter, lacks_text, where_findings};
+
+use crate::values::{add_wrong_at, plain_items};
+use lk_objects::{AccessFilter, AlwaysFilter, Code, ExploreFilter};
+use lk_params::{
+    Finding, Findings, Number, Order, Owner, add_if, code, find_unknown, parameters_of,
+};
+use lk_read::{Item, Node};
+use lk_val::{Items, NoMemory};
+use lk_written::{copied_text, find_in_code, find_in_filters, read_code, read_filters, text_at};
+use std::alloc::Global;
+
+// The filters of an explore in the order of the text, each with its first fault.
+pub(crate) fn read_explore_filters(
+    alloc: Global,
+    explore: &str,
+    items: &[Item],
+) -> Result<Items<ExploreFilter>, NoMemory>
+    ensures { IfOk result (AreExploreFilters explore.now (filter is_filter items.now)) }
+{
+    let mut filters = Items::new(alloc);
+    for item in items {
+        if is_filter(item) {
+            filters.push(read_filter(alloc, explore, item)?)?;
+        }
+    }
+    Ok(filters)
+}
+
+fn is_filter(item: &Item) -> bool
+    ensures { result ≡ is_filter item.now }
+{
+    let name = item.name.as_str();
+    name == "always_filter" || name == "access_filter" || name == "sql_always_where"
+}
+
+fn read_filter(alloc: Global, explore: &str, item: &Item) -> Result<ExploreFilter, NoMemory>
+    requires { is_filter item.now ≡ true }
+    ensures { IfOk result (IsExploreFilter explore.now item.now) }
+{
+    let name = item.name.as_str();
+    if name == "always_filter" {
+        Ok(ExploreFilter::Always(read_always(alloc, explore, &item.value)?))
+    } else if name == "access_filter" {
+        Ok(ExploreFilter::Access(read_access(alloc, explore, &item.value)?))
+    } else {
+        let condition = read_where(alloc, &item.value)?;
+        let first = first_of_where(alloc, explore, &condition)?;
+        Ok(ExploreFilter::Where(condition, first))
+    }
+}
+
+fn read_always(alloc: Global, explore: &str, value: &Node) -> Result<AlwaysFilter, NoMemory>
+    ensures { IfOk result (IsAlways explore.now value.now) }
+{
+    Ok(AlwaysFilter {
+        filters: read_filters(alloc, plain_items(value))?,
+        first: first_of_always(alloc, explore, value)?,
+    })
+}
+
+fn first_of_always(alloc: Global, explore: &str, value: &Node) -> Result<Option<Finding>, NoMemory>
+    ensures { IfOk result (λ first. first ≡ soonest (always_findings explore.now value.now)) }
+{
+    let mut findings = Findings::new();
+    let Node::Block(None, inner) = value else {
+        add_wrong_at(alloc, explore, "always_filter", true, &mut findings)?;
+        return Ok(findings.first);
+    };
+    let items = parameters_of(inner);
+    find_unknown(
+        alloc,
+        Order::Object,
+        Owner::AlwaysFilter,
+        explore,
+        None,
+        items,
+        &mut findings,
+    )?;
+    find_in_filters(
+        alloc,
+        Order::Object,
+        explore,
+        "filters",
+        items,
+        &mut findings,
+    )?;
+    Ok(findings.first)
+}
+
+fn read_access(alloc: Global, explore: &str, value: &Node) -> Result<AccessFilter, NoMemory>
+    ensures { IfOk result (λ filter. filter ≡ access_of explore.now value.now) }
+{
+    let items = plain_items(value);
+    Ok(AccessFilter {
+        field: copied_text(alloc, text_at("field", items))?,
+        attribute: copied_text(alloc, text_at("user_attribute", items))?,
+        first: first_of_access(alloc, explore, value)?,
+    })
+}
+
+fn first_of_access(alloc: Global, explore: &str, value: &Node) -> Result<Option<Finding>, NoMemory>
+    ensures { IfOk result (λ first. first ≡ soonest (access_findings explore.now value.now)) }
+{
+    let mut findings = Findings::new();
+    let Node::Block(None, inner) = value else {
+        add_wrong_at(alloc, explore, "access_filter", true, &mut findings)?;
+        return Ok(findings.first);
+    };
+    let items = parameters_of(inner);
+    find_unknown(
+        alloc,
+        Order::Object,
+        Owner::AccessFilter,
+        explore,
+        None,
+        items,
+        &mut findings,
+    )?;
+    let lacks_field = lacks_text("field", items);
+    add_wrong_at(alloc, explore, "field", lacks_field, &mut findings)?;
+    let lacks_attribute = lacks_text("user_attribute", items);
+    add_wrong_at(
+        alloc,
+        explore,
+        "user_attribute",
+        lacks_attribute,
+        &mut findings,
+    )?;
+    Ok(findings.first)
+}
+
+// Whether a parameter is missing, or its value is no word or string.
+fn lacks_text(name: &str, items: &[Item]) -> bool
+    ensures { result ≡ lacks_text name.now items.now }
+{
+    text_at(name, items).is_none()
+}
+
+// The code of a `sql_always_where`, as it is read.
+fn read_where(alloc: Global, value: &Node) -> Result<Code, NoMemory>
+    ensures { IfOk result (IsCode false (values.code value.now)) }
+{
+    match code(value) {
+        None => read_code(alloc, false, None),
+        Some(text) => read_code(alloc, false, Some(text.as_str())),
+    }
+}
+
+fn first_of_where(
+    alloc: Global,
+    explore: &str,
+    condition: &Code,
+) -> Result<Option<Finding>, NoMemory>
+    ensures { IfOk result (λ first. first ≡ soonest (where_findings explore.now condition.now)) }
+{
+    let mut findings = Findings::new();
+    if let Code::Liquid = condition {
+        add_if(
+            alloc,
+            true,
+            Order::Object,
+            Number::N11,
+            "sql_always_where",
+            explore,
+            "",
+            &mut findings,
+        )?;
+        return Ok(findings.first);
+    }
+    find_in_code(
+        alloc,
+        Order::Object,
+        explore,
+        "sql_always_where",
+        condition,
+        &mut findings,
+    )?;
+    Ok(findings.first)
+}
