@@ -9,24 +9,24 @@ use lk_objects::{DeclaredField, DeclaredView};
 use lk_val::{Items, NoMemory};
 use std::alloc::Global;
 
-// How a field is marked by what it names.
+/// How a field is marked by what it names.
 #[derive(Clone, Copy, Debug, PartialEq, Eq)]
-pub(crate) enum Rule {
-    // It is lost where some name means no field or a lost one.
+pub enum Rule {
+    /// It is lost where some name means no field or a lost one.
     Loses,
-    // Its references come to an end where those of all that it refers to do.
+    /// Its references come to an end where those of all that it refers to do.
     Ends,
 }
 
-// What a field names, by the numbers of fields among all of a scope, and whether it lacks one of its names.
+/// What a field names, by the numbers of fields among all of a scope, and whether it lacks one of its names.
 #[derive(Debug, Drop)]
-pub(crate) struct Row {
-    pub(crate) lacks: bool,
-    pub(crate) names: Items<usize>,
+pub struct Row {
+    pub lacks: bool,
+    pub names: Items<usize>,
 }
 
-// The rows of all fields of a scope.
-pub(crate) fn rows_of(
+/// The rows of the fields at some places, which are all of a scope. (lookd)
+pub fn rows_of(
     alloc: Global,
     rule: Rule,
     views: &[DeclaredView],
@@ -147,8 +147,8 @@ fn number_named(all: &[Place], name: &Option<Found>) -> Option<usize>
     }
 }
 
-// The number of a place among all places.
-pub(crate) fn number_of(all: &[Place], place: Place) -> Option<usize>
+/// The number of a place among all places.
+pub fn number_of(all: &[Place], place: Place) -> Option<usize>
     ensures { result ≡ number_of all.now place }
 {
     all.iter().position(|other| is_same_place(place, *other))

@@ -1,0 +1,13 @@
+//! The formulas of declared fields: their expressions over columns with the fields that they refer to put in, how many nodes
+//! these have, and which kinds they may have.
+#![tactic(auto)]
+
+mod columns;
+mod referent;
+mod resolved;
+mod stand_in;
+mod table;
+
+pub use columns::{ColumnKinds, UnknownColumn, column_named};
+pub use resolved::ResolvedCode;
+pub use table::FieldTable;
