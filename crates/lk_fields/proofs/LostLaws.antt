@@ -23,7 +23,7 @@ use Rattle.lk_fields.specs.Rows.{is_lacking, is_marked, is_taken, marks_after, m
 pub same_itself : (x : Place) → is_same_place x x ≡ true
 same_itself x = rw (eq-eqb x.part x.part refl, eq-eqb x.field x.field refl) refl
 
-both : (a b : Bool) → (a && b) ≡ true → (a ≡ true) × (b ≡ true)
+pub both : (a b : Bool) → (a && b) ≡ true → (a ≡ true) × (b ≡ true)
 both true b h = (refl, h)
 both false b h = absurd (false≢true h)
 
@@ -33,10 +33,10 @@ same_exact x y e =
     λ i. record { part = eqb-true x.part y.part parts.0 i; field = eqb-true x.field y.field parts.1 i }
 
 -- a place that passes is in what passes, and no other is
-passing : (p : Place → Bool) (x : Place) (all : List Place) → is_in is_same_place x (filter p all) ≡ (p x && is_in is_same_place x all)
+pub passing : (p : Place → Bool) (x : Place) (all : List Place) → is_in is_same_place x (filter p all) ≡ (p x && is_in is_same_place x all)
 passing p x all = any-filter_same (is_same_place x) p (p x) (λ k t. ap p (sym (same_exact x k t))) all
 
-among : (front : List Place) (x : Place) (rest : List Place) → is_in is_same_place x (front ++ x ∷ rest) ≡ true
+pub among : (front : List Place) (x : Place) (rest : List Place) → is_in is_same_place x (front ++ x ∷ rest) ≡ true
 among [] x rest = rw (same_itself x) refl
 among (y ∷ front) x rest = rw (among front x rest) (or_true (is_same_place x y)) where
   or_true : (b : Bool) → (b || true) ≡ true
@@ -54,7 +54,7 @@ or_false : (b : Bool) → (b || false) ≡ b
 or_false true = refl
 or_false false = refl
 
-and_true : (b : Bool) → (b && true) ≡ b
+pub and_true : (b : Bool) → (b && true) ≡ b
 and_true true = refl
 and_true false = refl
 
@@ -208,7 +208,7 @@ module _ (views : List DeclaredView) (scope : Scope) where
     passes zero x = false
     passes (suc n) x = is_in is_same_place x (round n) || added r (round n) x
 
-    as_filter : (n : ℕ) → round n ≡ filter (passes n) all
+    pub as_filter : (n : ℕ) → round n ≡ filter (passes n) all
     as_filter zero = sym (none_kept all)
     as_filter (suc n) = refl
 
@@ -216,7 +216,7 @@ module _ (views : List DeclaredView) (scope : Scope) where
     none_marked [] = refl
     none_marked (x ∷ xs) = ap (λ t. false ∷ t) (none_marked xs)
 
-    marks_are : (n : ℕ) → marks_after r n rows ≡ map (passes n) all
+    pub marks_are : (n : ℕ) → marks_after r n rows ≡ map (passes n) all
     marks_are zero = none_marked all
     marks_are (suc n) =
         ap (λ marks. marks_from r marks 0 rows) (marks_are n)

@@ -1,0 +1,6 @@
+pub mod KindLaws
+pub mod LargeLaws
+pub mod NodeKindLaws
+pub mod NumberLaws
+pub mod RoundLaws
+pub mod ToldLaws

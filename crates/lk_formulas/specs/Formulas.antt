@@ -56,11 +56,16 @@ abbrev pub framed : Option Frame → Formula → Formula
 framed None e = e
 framed (Some f) e = Framed f e
 
-module _ (schema : Schema) (views : List DeclaredView) (scope : Scope) (columns : ColumnKinds) (u : UnknownColumn) where
-  abbrev pub column_at : ℕ → Option ℕ → Formula
-  column_at part None = null
-  column_at part (Some column) = column_formula u (known_kind columns part column) part column
+abbrev pub column_at : ColumnKinds → UnknownColumn → ℕ → Option ℕ → Formula
+column_at columns u part None = null
+column_at columns u part (Some column) = column_formula u (known_kind columns part column) part column
 
+-- there is such a column, and its kind is known
+abbrev pub is_known : ColumnKinds → ℕ → Option ℕ → Bool
+is_known columns part None = false
+is_known columns part (Some column) = is_some (known_kind columns part column)
+
+module _ (schema : Schema) (views : List DeclaredView) (scope : Scope) (columns : ColumnKinds) (u : UnknownColumn) where
   -- the field that a name means, given the formulas of fields; one that reaches a cycle has none
   abbrev pub through : (Place → Formula) → Option Found → Formula
   through further None = null
@@ -68,7 +73,7 @@ module _ (schema : Schema) (views : List DeclaredView) (scope : Scope) (columns 
 
   -- what stands for a reference
   abbrev pub meaning : (Place → Formula) → Writer → Reference → Formula
-  meaning further w (reference.Column name) = column_at (part_of w) (column_named schema views scope (part_of w) name)
+  meaning further w (reference.Column name) = column_at columns u (part_of w) (column_named schema views scope (part_of w) name)
   meaning further w r = through further (field_named views scope w sort.Dimension r)
 
   -- a code with the meanings of its references put in; what is no expression is null
@@ -95,17 +100,12 @@ module _ (schema : Schema) (views : List DeclaredView) (scope : Scope) (columns 
 
   -- ---- whether all that stands in a formula is known
 
-  -- there is such a column, and its kind is known
-  abbrev pub is_known : ℕ → Option ℕ → Bool
-  is_known part None = false
-  is_known part (Some column) = is_some (known_kind columns part column)
-
   abbrev pub knows_through : (Place → Bool) → Option Found → Bool
   knows_through further None = false
   knows_through further (Some found) = ends views scope found.place && further found.place
 
   abbrev pub knows : (Place → Bool) → Writer → Reference → Bool
-  knows further w (reference.Column name) = is_known (part_of w) (column_named schema views scope (part_of w) name)
+  knows further w (reference.Column name) = is_known columns (part_of w) (column_named schema views scope (part_of w) name)
   knows further w r = knows_through further (field_named views scope w sort.Dimension r)
 
   abbrev pub knows_all : (Place → Bool) → Writer → Code → Bool

@@ -2,6 +2,9 @@ pub mod Columns
 pub mod FieldKinds
 pub mod FormulaKinds
 pub mod Formulas
+pub mod KindNodes
+pub mod NumberNodes
 pub mod NumberSizes
 pub mod Referents
 pub mod Resolved
+pub mod Told

@@ -2,12 +2,18 @@
 //! these have, and which kinds they may have.
 #![tactic(auto)]
 
+mod code;
 mod columns;
+mod filling;
+mod kinds;
+mod laws;
+mod number_size;
 mod referent;
 mod resolved;
 mod stand_in;
 mod table;
 
 pub use columns::{ColumnKinds, UnknownColumn, column_named};
+pub use laws::kinds_are_those_of_resolved_expressions;
 pub use resolved::ResolvedCode;
 pub use table::FieldTable;

@@ -1,0 +1,140 @@
+ghost use Rattle.std.specs.Prelude.{◌≡◌, ◌<◌, Some, None, IfOk, List, false, length, map, nat_lt, slice_set, if◌then◌else◌};
+ghost use Rattle.std.specs.List.{list_all};
+ghost use Rattle.lk_types.specs.Formula.{Formula};
+ghost use Rattle.lk_fields.specs.Substituted.{replacement, substituted};
+ghost use Rattle.lk_formulas.specs.declared.columns.ColumnKinds.{ColumnKinds};
+ghost use Rattle.lk_formulas.specs.declared.columns.UnknownColumn.{UnknownColumn};
+ghost use Rattle.lk_formulas.specs.Formulas.{null};
+ghost use Rattle.lk_formulas.specs.NumberSizes.{nodes_of_code, number_nodes, told};
+ghost use Rattle.lk_formulas.specs.Referents.{AreTold, formula_of_referent, is_certain_referent};
+ghost use Rattle.lk_formulas.specs.Resolved.{most_nodes, resolved, resolved_in};
+ghost use Rattle.lk_formulas.specs.Told.{IsCodeTold};
+
+use crate::columns::{ColumnKinds, UnknownColumn};
+use crate::kinds::kinds_with;
+use crate::number_size::nodes_by;
+use crate::referent::{Names, Referent, referents_of};
+use crate::resolved::{ResolvedCode, ResolvedField};
+use crate::stand_in::{are_certain, formulas_of, kinds_of_all, null, number_sizes_of, sizes_of};
+use lk_fields::{Sort, Writer, nodes_with, substituted};
+use lk_objects::Code;
+use lk_types::{Expr, KindSet};
+use lk_val::NoMemory;
+use std::alloc::Global;
+
+// The most nodes that an expression may have. (lookd)
+const MOST_NODES: usize = 10_000;
+
+// The formula of a code in a text, where the fields that it refers to are told.
+pub(crate) fn resolved_code(
+    alloc: Global,
+    names: &Names,
+    columns: &ColumnKinds,
+    unknown: UnknownColumn,
+    fields: &[Option<ResolvedField>],
+    writer: Writer,
+    code: &Code,
+) -> Result<ResolvedCode, NoMemory>
+    ensures { IsCodeTold names.now.schema.now names.now.views.now names.now.scope.now columns.now unknown names.now.places.now fields.now writer code.now
+        → IfOk result (λ made. made ≡ resolved_in names.now.schema.now names.now.views.now names.now.scope.now columns.now unknown writer code.now) }
+{
+    match code {
+        Code::Expr(written) => {
+            let references = written.references.as_slice();
+            let referents = referents_of(alloc, names, writer, Sort::Dimension, references)?;
+            let referents = referents.as_slice();
+            resolved_with(alloc, columns, unknown, fields, referents, &written.expr)
+        }
+        _ => resolved_null(alloc),
+    }
+}
+
+// What is no expression is null.
+pub(crate) fn resolved_null(alloc: Global) -> Result<ResolvedCode, NoMemory>
+    ensures { (columns : ColumnKinds) → IfOk result (λ made. made ≡ resolved columns null false) }
+{
+    Ok(ResolvedCode {
+        size: 1,
+        kinds: KindSet::every(),
+        is_certain: false,
+        expr: Some(null(alloc)?),
+    })
+}
+
+// The formula of an expression with what is told of its referents put in.
+fn resolved_with(
+    alloc: Global,
+    columns: &ColumnKinds,
+    unknown: UnknownColumn,
+    fields: &[Option<ResolvedField>],
+    referents: &[Referent],
+    expr: &Expr,
+) -> Result<ResolvedCode, NoMemory>
+    ensures { (by : List Formula) → AreTold columns.now unknown fields.now referents.now by
+        → IfOk result (λ made. made
+        ≡ resolved columns.now (substituted (replacement by) expr.now) (list_all (is_certain_referent columns.now fields.now) referents.now)) }
+{
+    let sizes = sizes_of(alloc, fields, referents)?;
+    let by = kinds_of_all(alloc, columns, unknown, fields, referents)?;
+    let size = nodes_with(expr, sizes.as_slice());
+    let kinds = kinds_with(alloc, expr, by.as_slice())?;
+    Ok(ResolvedCode {
+        size,
+        kinds,
+        is_certain: are_certain(columns, fields, referents),
+        expr: kept(alloc, columns, unknown, fields, referents, expr, size)?,
+    })
+}
+
+// The formula itself, where its size is not too large. It is made only then, since an expression may grow exponentially.
+fn kept(
+    alloc: Global,
+    columns: &ColumnKinds,
+    unknown: UnknownColumn,
+    fields: &[Option<ResolvedField>],
+    referents: &[Referent],
+    expr: &Expr,
+    size: usize,
+) -> Result<Option<Expr>, NoMemory>
+    ensures { IfOk result (λ made. made ≡ (if nat_lt most_nodes size then None
+        else Some (substituted (replacement (map (formula_of_referent columns.now unknown fields.now) referents.now)) expr.now))) }
+{
+    if size > MOST_NODES {
+        return Ok(None);
+    }
+    let by = formulas_of(alloc, columns, unknown, fields, referents)?;
+    Ok(Some(substituted(alloc, expr, by.as_slice())?))
+}
+
+// How many nodes a code has as the expression of a measure of type number, where the measures that it refers to are told.
+pub(crate) fn number_size(
+    alloc: Global,
+    names: &Names,
+    fields: &[Option<ResolvedField>],
+    part: u32,
+    code: &Code,
+) -> Result<usize, NoMemory>
+    ensures { (columns : ColumnKinds) (unknown : UnknownColumn)
+        → IsCodeTold names.now.schema.now names.now.views.now names.now.scope.now columns unknown names.now.places.now fields.now (Writer.Field part) code.now
+        → IfOk result (λ size. size
+        ≡ told (nodes_of_code names.now.views.now names.now.scope.now (number_nodes names.now.views.now names.now.scope.now) part code.now)) }
+{
+    match code {
+        Code::Number(written) => {
+            let writer = Writer::Field(part);
+            let references = written.references.as_slice();
+            let referents = referents_of(alloc, names, writer, Sort::Measure, references)?;
+            let sizes = number_sizes_of(alloc, fields, referents.as_slice())?;
+            Ok(nodes_by(&written.expr, sizes.as_slice()))
+        }
+        _ => Ok(1),
+    }
+}
+
+// Puts what is told of a field in its place.
+pub(crate) fn put(fields: &mut [Option<ResolvedField>], number: usize, field: ResolvedField)
+    requires { number < length fields.old }
+    ensures { fields.new ≡ slice_set fields.old number (Some field) }
+{
+    fields[number] = Some(field);
+}
