@@ -204,7 +204,7 @@ module _ (views : List DeclaredView) (scope : Scope) where
     abbrev round : ℕ → List Place
     round n = grown_times is_same_place all (added r) n
 
-    abbrev passes : ℕ → Place → Bool
+    abbrev pub passes : ℕ → Place → Bool
     passes zero x = false
     passes (suc n) x = is_in is_same_place x (round n) || added r (round n) x
 

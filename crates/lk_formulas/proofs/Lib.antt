@@ -1,3 +1,4 @@
+pub mod FillLaws
 pub mod KindLaws
 pub mod LargeLaws
 pub mod NodeKindLaws

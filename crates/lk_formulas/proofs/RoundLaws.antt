@@ -220,7 +220,7 @@ module _ (views : List DeclaredView) (scope : Scope) where
       → field_kept schema views scope columns u p
       ≡ record {
         code = resolved columns (expanded_field schema views scope columns u (formula_of schema views scope columns u) p.part o) (knows_field schema views scope columns u (is_certain schema views scope columns u) p.part o);
-        number_size = told (nodes_of_field views scope (number_nodes views scope) p.part o)
+        number_size = told (nodes_of_field views scope (number_nodes views scope) p.part o);
       }
   kept_is schema columns u p o h e =
       let formula = formula_fixed schema columns u p h ∙ ap (expanded_field schema views scope columns u (formula_of schema views scope columns u) p.part) e in

@@ -5,7 +5,7 @@ use Rattle.std.specs.List.{list_all}
 use Rattle.std.specs.Option.{option_and_then}
 use Rattle.lk_val.specs.declared.value.Value.TheVariants as value
 use Rattle.lk_types.specs.Formula.{Formula, Literal}
-use Rattle.lk_types.specs.Kinds.{kinds_of_column}
+use Rattle.lk_types.specs.Kinds.{every_kind, is_empty, kinds_of_column}
 use Rattle.lk_types.specs.declared.kind_set.KindSet.{KindSet}
 use Rattle.lk_types.specs.declared.schema.Frame.{Frame}
 use Rattle.lk_types.specs.declared.schema.Kind.{Kind}
@@ -35,13 +35,14 @@ use Rattle.lk_formulas.specs.declared.referent.Referent.{Referent}
 use Rattle.lk_formulas.specs.declared.resolved.ResolvedCode.{ResolvedCode}
 use Rattle.lk_formulas.specs.declared.resolved.ResolvedField.{ResolvedField}
 use Rattle.lk_formulas.specs.Columns.{column_named, known_kind}
+use Rattle.lk_formulas.specs.FieldKinds.{field_kinds, is_sure, key_clashes}
 use Rattle.lk_formulas.specs.FormulaKinds.{kinds_by, kinds_in}
 use Rattle.lk_formulas.specs.Formulas.{column_at, column_formula, ends, field_named, formula_of, framed, is_certain, is_known, knows, knows_through, meaning, null, part_of, through}
 use Rattle.lk_formulas.specs.KindNodes.{stands_for}
 use Rattle.lk_formulas.specs.NumberSizes.{nodes_meant, nodes_of_code, nodes_of_field, nodes_through, number_nodes, number_nodes_within, told}
 use Rattle.lk_formulas.specs.Referents.{AreTold, column_kinds, column_referent, field_numbered, field_referent, formula_framed, formula_of_referent, formula_through, is_certain_referent, is_certain_through, kinds_in_frame, kinds_of_referent, kinds_through, number_size_of, number_size_through, numbered_referent, referent_of, size_framed, size_of, size_through}
-use Rattle.lk_formulas.specs.Resolved.{field_kept, field_told, kept, most_nodes, resolved, resolved_in}
-use Rattle.lk_formulas.specs.Told.{AreAllTold, IsTold, kept_at}
+use Rattle.lk_formulas.specs.Resolved.{code_told, field_kept, field_told, kept, most_nodes, resolved, resolved_field, resolved_in}
+use Rattle.lk_formulas.specs.Told.{AreAllTold, IsTold, is_sure_kept, kept_at, kinds_kept}
 use Rattle.lk_formulas.proofs.KindLaws.{put}
 use Rattle.lk_formulas.proofs.LargeLaws.{same}
 
@@ -109,7 +110,7 @@ module _ (columns : ColumnKinds) (u : UnknownColumn) (fields : List (Option Reso
 
 -- ---- a field: what is kept at its number, and what is told of it
 
-abbrev code_of : ResolvedField → ResolvedCode
+abbrev pub code_of : ResolvedField → ResolvedCode
 code_of field = field.code
 
 module _ (columns : ColumnKinds) (u : UnknownColumn) (fields : List (Option ResolvedField)) (f : Option Frame) where
@@ -324,3 +325,39 @@ other_number views scope part code.Liquid h = refl
 other_number views scope part (code.Number written) h = absurd (h written refl)
 other_number views scope part (code.Syntax place) h = refl
 other_number views scope part (code.Call place) h = refl
+
+-- ---- what is told of a field
+
+module _ (schema : Schema) (views : List DeclaredView) (scope : Scope) (columns : ColumnKinds) (u : UnknownColumn) (p : Place) where
+  abbrev entry : Bool → Option ResolvedField
+  entry e = if e then Some (field_kept schema views scope columns u p) else None
+
+  pub code_of_told : option_map code_of (field_told schema views scope columns u p) ≡ code_told schema views scope columns u p
+  code_of_told = elim (ends views scope p) as (λ b. option_map code_of (entry b) ≡ (if b then Some (resolved_field schema views scope columns u p) else None)) [ true ↦ refl | false ↦ refl ]
+
+  never : (h : ends views scope p ≡ false) (n : ℕ) → number_nodes_within views scope n p ≡ 1
+  never h zero = refl
+  never h (suc n) = ap (λ b. if b then nodes_of_field views scope (number_nodes_within views scope n) p.part (field_at views scope p) else 1) h
+
+  pub number_of_told : number_size_through (field_told schema views scope columns u p) ≡ told (number_nodes views scope p)
+  number_of_told =
+      number_if_told (resolved_field schema views scope columns u p) (ends views scope p) (number_nodes views scope p) (λ e. never e (length (all_places views scope)))
+
+  pub kinds_of_told : kinds_kept (field_told schema views scope columns u p) ≡ field_kinds schema views scope columns u p
+  kinds_of_told = elim (ends views scope p) as (λ b. kinds_kept (entry b) ≡ (if b then kinds_in columns (formula_of schema views scope columns u p) else every_kind)) [ true ↦ refl | false ↦ refl ]
+
+  pub sure_of_told : is_sure_kept (field_told schema views scope columns u p) ≡ is_sure schema views scope columns u p
+  sure_of_told = elim (ends views scope p) as (λ b. is_sure_kept (entry b) ≡ (b && is_certain schema views scope columns u p)) [ true ↦ refl | false ↦ refl ]
+
+  -- a key
+  pub key_of_expr : (c : Code) (written : Written) → c ≡ code.Expr written → is_empty (resolved_in schema views scope columns u (writer.Field p.part) c).kinds ≡ key_clashes schema views scope columns u p.part c
+  key_of_expr c written e =
+      subst (λ (x : Code). is_empty (resolved_in schema views scope columns u (writer.Field p.part) x).kinds ≡ key_clashes schema views scope columns u p.part x) (sym e) refl
+
+  pub key_of_other : (c : Code) → ((written : Written) → c ≡ code.Expr written → ⊥) → false ≡ key_clashes schema views scope columns u p.part c
+  key_of_other (code.Expr written) h = absurd (h written refl)
+  key_of_other code.Absent h = refl
+  key_of_other code.Liquid h = refl
+  key_of_other (code.Number written) h = refl
+  key_of_other (code.Syntax place) h = refl
+  key_of_other (code.Call place) h = refl

@@ -2,7 +2,7 @@
 use Rattle.std.specs.Prelude.{ℕ, Bool, true, false, not, ◌&&◌, ◌||◌, if◌then◌else◌, List, Option, Some, None}
 use Rattle.std.specs.List.{list_any}
 use Rattle.std.specs.Option.{option_and_then, option_or}
-use Rattle.lk_types.specs.Kinds.{every_kind, has_kind, is_empty, kinds_framed, single}
+use Rattle.lk_types.specs.Kinds.{every_kind, has_kind, has_time, is_empty, kinds_framed, single}
 use Rattle.lk_types.specs.declared.explore.Op.{Op}
 use Rattle.lk_types.specs.declared.explore.Op.TheVariants as op
 use Rattle.lk_types.specs.declared.kind_set.KindSet.{KindSet}
@@ -63,6 +63,23 @@ time_kind kinds certain = if is_empty kinds then None else option_or (single_tim
 abbrev pub value_kind : KindSet → Bool → Option Kind
 value_kind kinds certain = if is_empty kinds then None else option_or (single kinds) (kind_if certain kind.Text)
 
+-- the kind of a time group with or without a timeframe, given that of the group
+abbrev pub framed_kind : Option Frame → Option Kind → Option Kind
+framed_kind None group = group
+framed_kind (Some f) group = option_or (kind_of_frame f) group
+
+-- the kind of a dimension by its sort
+abbrev pub dimension_kind : FieldSort → Option Frame → Option Kind → Option Kind
+dimension_kind (field_sort.Dimension t) f group = kind_of_type t
+dimension_kind field_sort.Group f group = framed_kind f group
+dimension_kind (field_sort.Measure o) f group = None
+
+-- the kind of a measure by its sort, given that of the values of a `min` or `max`; any other is a number
+abbrev pub kind_of_measure : FieldSort → Option Kind → Option Kind
+kind_of_measure (field_sort.Measure (Some op.Min)) extreme = extreme
+kind_of_measure (field_sort.Measure (Some op.Max)) extreme = extreme
+kind_of_measure s extreme = Some kind.Number
+
 abbrev pub is_no_number : Option Kind → Bool
 is_no_number None = false
 is_no_number (Some kind.Number) = false
@@ -73,11 +90,31 @@ abbrev pub or_text : Option Kind → Kind
 or_text None = kind.Text
 or_text (Some k) = k
 
+-- a measure of numbers
+abbrev pub adds_numbers : Option Op → Bool
+adds_numbers (Some op.Sum) = true
+adds_numbers (Some op.Average) = true
+adds_numbers (Some op.SumDistinct) = true
+adds_numbers (Some op.AverageDistinct) = true
+adds_numbers o = false
+
+-- a measure of type number
+abbrev pub is_number : FieldSort → Bool
+is_number (field_sort.Measure (Some op.Number)) = true
+is_number s = false
+
+-- an expression of these kinds has not the kind that the type of a field needs
+abbrev pub misses_kind : FieldSort → KindSet → Bool
+misses_kind (field_sort.Dimension t) kinds = not (has_kind (or_text (kind_of_type t)) kinds)
+misses_kind field_sort.Group kinds = not (has_time kinds)
+misses_kind (field_sort.Measure o) kinds = if adds_numbers o then not (has_kind kind.Number kinds) else is_empty kinds
+
 module _ (schema : Schema) (views : List DeclaredView) (scope : Scope) (columns : ColumnKinds) (u : UnknownColumn) where
   -- the kinds that a field's expression may have; every kind where it reaches a cycle, so that this gives no further fault
   abbrev pub field_kinds : Place → KindSet
   field_kinds place = if ends views scope place then kinds_in columns (formula_of schema views scope columns u place) else every_kind
 
+  -- all that stands in it is known
   abbrev pub is_sure : Place → Bool
   is_sure place = ends views scope place && is_certain schema views scope columns u place
 
@@ -85,32 +122,18 @@ module _ (schema : Schema) (views : List DeclaredView) (scope : Scope) (columns 
   abbrev pub group_kind : Place → Option Kind
   group_kind place = time_kind (field_kinds place) (is_sure place)
 
-  abbrev pub framed_kind : Place → Option Frame → Option Kind
-  framed_kind place None = group_kind place
-  framed_kind place (Some f) = option_or (kind_of_frame f) (group_kind place)
-
-  abbrev pub dimension_kind : Found → FieldSort → Option Kind
-  dimension_kind found (field_sort.Dimension t) = kind_of_type t
-  dimension_kind found field_sort.Group = framed_kind found.place found.frame
-  dimension_kind found (field_sort.Measure o) = None
-
   -- the kind of a dimension's value, if it can be told
   abbrev pub field_kind : Found → Option Kind
-  field_kind found = option_and_then (λ field. dimension_kind found field.sort) (field_at views scope found.place)
+  field_kind found =
+      option_and_then (λ field. dimension_kind field.sort found.frame (group_kind found.place)) (field_at views scope found.place)
 
   -- the kind of a `min` or `max`: a text where its expression gives none
   abbrev pub extreme_kind : Place → Option Kind
   extreme_kind place = value_kind (field_kinds place) (is_sure place)
 
-  -- any other measure is a number
-  abbrev pub measure_kind_with : Place → FieldSort → Option Kind
-  measure_kind_with place (field_sort.Measure (Some op.Min)) = extreme_kind place
-  measure_kind_with place (field_sort.Measure (Some op.Max)) = extreme_kind place
-  measure_kind_with place s = Some kind.Number
-
   -- the kind of a measure's value, if it can be told
   abbrev pub measure_kind : Place → Option Kind
-  measure_kind place = option_and_then (λ field. measure_kind_with place field.sort) (field_at views scope place)
+  measure_kind place = option_and_then (λ field. kind_of_measure field.sort (extreme_kind place)) (field_at views scope place)
 
   -- ---- where kinds clash
 
@@ -124,22 +147,11 @@ module _ (schema : Schema) (views : List DeclaredView) (scope : Scope) (columns 
   key_clashes part (code.Expr written) = is_empty (kinds_in columns (formula_in schema views scope columns u (writer.Field part) (code.Expr written)))
   key_clashes part c = false
 
-  abbrev pub measure_clashes : ℕ → DeclaredField → Op → KindSet → Bool
-  measure_clashes part field op.Number kinds = list_any takes_no_number (referred views scope part field)
-  measure_clashes part field op.Sum kinds = not (has_kind kind.Number kinds)
-  measure_clashes part field op.Average kinds = not (has_kind kind.Number kinds)
-  measure_clashes part field op.SumDistinct kinds = not (has_kind kind.Number kinds)
-  measure_clashes part field op.AverageDistinct kinds = not (has_kind kind.Number kinds)
-  measure_clashes part field o kinds = is_empty kinds
+  -- the expression has not the kind that the field's type needs
+  abbrev pub sort_clashes : Place → DeclaredField → Bool
+  sort_clashes place field =
+      if is_number field.sort then list_any takes_no_number (referred views scope place.part field) else misses_kind field.sort (field_kinds place)
 
-  -- an expression of these kinds has not the kind that the field's type needs
-  abbrev pub sort_clashes : ℕ → DeclaredField → FieldSort → KindSet → Bool
-  sort_clashes part field (field_sort.Dimension t) kinds = not (has_kind (or_text (kind_of_type t)) kinds)
-  sort_clashes part field field_sort.Group kinds = not (has_kind kind.Day kinds || has_kind kind.Moment kinds)
-  sort_clashes part field (field_sort.Measure None) kinds = is_empty kinds
-  sort_clashes part field (field_sort.Measure (Some o)) kinds = measure_clashes part field o kinds
-
-  -- the field's expression has not the kind that its type needs, or kinds clash in its key
+  -- or kinds clash in the field's key
   abbrev pub field_clashes : Place → DeclaredField → Bool
-  field_clashes place field =
-      sort_clashes place.part field field.sort (field_kinds place) || key_clashes place.part field.key
+  field_clashes place field = sort_clashes place field || key_clashes place.part field.key

@@ -1,5 +1,6 @@
 pub mod Columns
 pub mod FieldKinds
+pub mod Filling
 pub mod FormulaKinds
 pub mod Formulas
 pub mod KindNodes

@@ -48,6 +48,10 @@ module _ (schema : Schema) (views : List DeclaredView) (scope : Scope) (columns 
   abbrev pub field_told : Place → Option ResolvedField
   field_told place = if ends views scope place then Some (field_kept place) else None
 
+  -- what is told of the formula of a field, none where it reaches a cycle
+  abbrev pub code_told : Place → Option ResolvedCode
+  code_told place = if ends views scope place then Some (resolved_field place) else None
+
   -- the table was made of these
   pub record IsTableOf (table : FieldTable) : Type 0 where
     pub set_is : IsSetOf views scope table.set

@@ -1,6 +1,8 @@
 -- When what is kept of fields tells all that a code refers to.
-use Rattle.std.specs.Prelude.{◌≡◌, List, [], ◌∷◌, Option, Some, None}
+use Rattle.std.specs.Prelude.{◌≡◌, Bool, false, List, [], ◌∷◌, Option, Some, None}
 use Rattle.std.specs.Option.{option_and_then}
+use Rattle.lk_types.specs.Kinds.{every_kind}
+use Rattle.lk_types.specs.declared.kind_set.KindSet.{KindSet}
 use Rattle.lk_types.specs.declared.schema.Schema.{Schema}
 use Rattle.lk_objects.specs.declared.code.Code.{Code}
 use Rattle.lk_objects.specs.declared.code.Code.TheVariants as code
@@ -25,6 +27,15 @@ use Rattle.lk_formulas.specs.Resolved.{field_told}
 -- what is kept of the field at a place
 abbrev pub kept_at : List Place → List (Option ResolvedField) → Place → Option ResolvedField
 kept_at places fields place = option_and_then (field_numbered fields) (number_of places place)
+
+-- the kinds of a field that is kept, and every kind of one that is not
+abbrev pub kinds_kept : Option ResolvedField → KindSet
+kinds_kept None = every_kind
+kinds_kept (Some field) = field.code.kinds
+
+abbrev pub is_sure_kept : Option ResolvedField → Bool
+is_sure_kept None = false
+is_sure_kept (Some field) = field.code.is_certain
 
 module _ (schema : Schema) (views : List DeclaredView) (scope : Scope) (columns : ColumnKinds) (u : UnknownColumn) (places : List Place) (fields : List (Option ResolvedField)) where
   -- what is kept of the field that a name means is what is told of it

@@ -23,13 +23,13 @@ returns-in_ok-sizes-in-Number c =
     → IsCodeTold schema views scope columns unknown places fields (writer.Field part) code → c.nodes_by.result ≡ told (nodes_of_code views scope (number_nodes views scope) part code))
     (sym c.in-Number.is)
     (λ columns unknown is_told.
-      let rs = c.in-Number.written.references in
-      let one = referent_of schema views scope places (writer.Field part) sort.Measure in
-      let same : c.as_slice.result.now ≡ map one rs =
-      c.as_slice.ensures ∙ c.in_ok-referents-in-Number.ensures ∙ ap (λ (t : List Reference). map one t) c.as_slice-references.ensures in
-      c.nodes_by.ensures (map (nodes_meant views scope (number_nodes views scope) part) rs)
-      (c.as_slice-in-Number.ensures ∙ c.in_ok-sizes-in-Number.ensures ∙ ap (λ t. map (number_size_of fields) t) same
-      ∙ numbers_told schema views scope columns unknown places fields part rs is_told))
+    let rs = c.in-Number.written.references in
+    let one = referent_of schema views scope places (writer.Field part) sort.Measure in
+    let same : c.as_slice.result.now ≡ map one rs =
+    c.as_slice.ensures ∙ c.in_ok-referents-in-Number.ensures ∙ ap (λ (t : List Reference). map one t) c.as_slice-references.ensures in
+    c.nodes_by.ensures (map (nodes_meant views scope (number_nodes views scope) part) rs)
+    (c.as_slice-in-Number.ensures ∙ c.in_ok-sizes-in-Number.ensures ∙ ap (λ t. map (number_size_of fields) t) same
+    ∙ numbers_told schema views scope columns unknown places fields part rs is_told))
 
 pub returns-in_default : goal.returns-in_default
 returns-in_default c = λ columns unknown is_told. other_number c.args.names.now.views.now c.args.names.now.scope.now c.args.part c.args.code.now c.in_default.not-Number

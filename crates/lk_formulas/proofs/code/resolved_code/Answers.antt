@@ -28,16 +28,16 @@ returns-in_ok-referents-in-Expr c =
     subst (λ (x : Code). IsCodeTold schema views scope columns u places fields w x → IfOk r (λ made. made ≡ resolved_in schema views scope columns u w x))
     (sym c.in-Expr.is)
     (λ told.
-      let rs = c.in-Expr.written.references in
-      let one = referent_of schema views scope places w sort.Dimension in
-      let by = map (meaning schema views scope columns u (formula_of schema views scope columns u) w) rs in
-      let same : c.as_slice-referents.result.now ≡ map one rs =
-      c.as_slice-referents.ensures ∙ c.in_ok-referents-in-Expr.ensures ∙ ap (λ (t : List Reference). map one t) c.as_slice-references.ensures in
-      IfOk-weaker r (λ made. made ≡ resolved columns (substituted (replacement by) c.in-Expr.written.expr) (list_all (is_certain_referent columns fields) c.as_slice-referents.result.now))
-      (λ made. made ≡ resolved_in schema views scope columns u w (code.Expr c.in-Expr.written))
-      (λ made is. is ∙ ap (λ b. resolved columns (substituted (replacement by) c.in-Expr.written.expr) b)
-      (ap (λ t. list_all (is_certain_referent columns fields) t) same ∙ certain_told schema views scope columns u places fields w rs told))
-      (c.resolved_with.ensures by (subst (λ t. AreTold columns u fields t by) (sym same) (are_told schema views scope columns u places fields w rs told))))
+    let rs = c.in-Expr.written.references in
+    let one = referent_of schema views scope places w sort.Dimension in
+    let by = map (meaning schema views scope columns u (formula_of schema views scope columns u) w) rs in
+    let same : c.as_slice-referents.result.now ≡ map one rs =
+    c.as_slice-referents.ensures ∙ c.in_ok-referents-in-Expr.ensures ∙ ap (λ (t : List Reference). map one t) c.as_slice-references.ensures in
+    IfOk-weaker r (λ made. made ≡ resolved columns (substituted (replacement by) c.in-Expr.written.expr) (list_all (is_certain_referent columns fields) c.as_slice-referents.result.now))
+    (λ made. made ≡ resolved_in schema views scope columns u w (code.Expr c.in-Expr.written))
+    (λ made is. is ∙ ap (λ b. resolved columns (substituted (replacement by) c.in-Expr.written.expr) b)
+    (ap (λ t. list_all (is_certain_referent columns fields) t) same ∙ certain_told schema views scope columns u places fields w rs told))
+    (c.resolved_with.ensures by (subst (λ t. AreTold columns u fields t by) (sym same) (are_told schema views scope columns u places fields w rs told))))
 
 pub returns-in_default : goal.returns-in_default
 returns-in_default c = λ told.
