@@ -1,6 +1,6 @@
 -- Rounds by which fields are resolved: what is kept is right, and in the end all is kept whose references come to an end.
 use Rattle.std.proofs.Common.{◌≡◌, ℕ, zero, suc, ◌+◌, ◌<◌, ◌≤◌, Bool, true, false, ◌&&◌, ◌||◌, List, [], ◌∷◌, ◌++◌, length, get_or, map, Option, Some, None, refl, sym, ap, ◌∙◌, subst, append_assoc, arith}
-use Rattle.std.specs.Prelude.{cond, filter, nat_lt, if◌then◌else◌, is_none, is_some, not, option_map, slice_index_or, slice_set}
+use Rattle.std.specs.Prelude.{cond, filter, nat_lt, if◌then◌else◌, is_none, is_some, not, slice_set}
 use Rattle.std.specs.List.{flat_map, list_all, list_any, position_from}
 use Rattle.std.specs.Option.{option_and_then}
 use Rattle.std.proofs.lemmas.Bool.{false≢true}
@@ -31,12 +31,11 @@ use Rattle.lk_fields.proofs.LostLaws.{among, and_true, as_filter, both, marks_ar
 use Rattle.lk_formulas.specs.declared.columns.ColumnKinds.{ColumnKinds}
 use Rattle.lk_formulas.specs.declared.columns.UnknownColumn.{UnknownColumn}
 use Rattle.lk_formulas.specs.declared.resolved.ResolvedField.{ResolvedField}
-use Rattle.lk_formulas.specs.Filling.{AreRight, Covers, IsRight, IsRound, IsStep, is_kept, is_ready}
+use Rattle.lk_formulas.specs.Filling.{AreRight, Covers, IsRight, IsStep, is_kept, is_ready}
 use Rattle.lk_formulas.specs.Formulas.{ends, field_named}
 use Rattle.lk_formulas.specs.Referents.{field_numbered}
 use Rattle.lk_formulas.specs.Resolved.{field_kept, field_told}
 use Rattle.lk_formulas.specs.Told.{AreAllTold, IsCodeTold, IsFieldTold, IsTold, kept_at}
-use Rattle.lk_formulas.proofs.RoundLaws.{all_in}
 
 abbrev no_field : Option ResolvedField
 no_field = None

@@ -1,10 +1,9 @@
 -- What is told of referents is what is told of the formulas that they stand for.
 use Rattle.std.proofs.Common.{◌≡◌, ℕ, ◌+◌, ◌-◌, ◌^◌, ◌<◌, ◌≤◌, Bool, true, false, ◌&&◌, List, [], ◌∷◌, length, map, min, Option, Some, None, refl, sym, ap, ◌∙◌, inl, inr, subst, arith}
-use Rattle.std.specs.Prelude.{◌⊎◌, if◌then◌else◌, nat_lt, option_map, is_some, zero, suc}
+use Rattle.std.specs.Prelude.{◌⊎◌, if◌then◌else◌, nat_lt, option_map, zero, suc}
 use Rattle.std.specs.List.{list_all}
 use Rattle.std.specs.Option.{option_and_then}
-use Rattle.lk_val.specs.declared.value.Value.TheVariants as value
-use Rattle.lk_types.specs.Formula.{Formula, Literal}
+use Rattle.lk_types.specs.Formula.{Formula}
 use Rattle.lk_types.specs.Kinds.{every_kind, is_empty, kinds_of_column}
 use Rattle.lk_types.specs.declared.kind_set.KindSet.{KindSet}
 use Rattle.lk_types.specs.declared.schema.Frame.{Frame}
@@ -40,9 +39,9 @@ use Rattle.lk_formulas.specs.FormulaKinds.{kinds_by, kinds_in}
 use Rattle.lk_formulas.specs.Formulas.{column_at, column_formula, ends, field_named, formula_of, framed, is_certain, is_known, knows, knows_through, meaning, null, part_of, through}
 use Rattle.lk_formulas.specs.KindNodes.{stands_for}
 use Rattle.lk_formulas.specs.NumberSizes.{nodes_meant, nodes_of_code, nodes_of_field, nodes_through, number_nodes, number_nodes_within, told}
-use Rattle.lk_formulas.specs.Referents.{AreTold, column_kinds, column_referent, field_numbered, field_referent, formula_framed, formula_of_referent, formula_through, is_certain_referent, is_certain_through, kinds_in_frame, kinds_of_referent, kinds_through, number_size_of, number_size_through, numbered_referent, referent_of, size_framed, size_of, size_through}
+use Rattle.lk_formulas.specs.Referents.{AreTold, column_kinds, column_referent, field_numbered, field_referent, formula_framed, formula_of_referent, formula_through, is_certain_referent, is_certain_through, kinds_of_referent, kinds_through, number_size_of, number_size_through, numbered_referent, referent_of, size_of, size_through}
 use Rattle.lk_formulas.specs.Resolved.{code_told, field_kept, field_told, kept, most_nodes, resolved, resolved_field, resolved_in}
-use Rattle.lk_formulas.specs.Told.{AreAllTold, IsTold, is_sure_kept, kept_at, kinds_kept}
+use Rattle.lk_formulas.specs.Told.{AreAllTold, IsTold, is_sure_kept, kinds_kept}
 use Rattle.lk_formulas.proofs.KindLaws.{put}
 use Rattle.lk_formulas.proofs.LargeLaws.{same}
 

@@ -6,7 +6,6 @@ use Rattle.lk_objects.specs.declared.code.Code.TheVariants as code
 use Rattle.lk_objects.specs.declared.code.Reference.{Reference}
 use Rattle.lk_fields.specs.declared.scope.Sort.TheVariants as sort
 use Rattle.lk_fields.specs.Substituted.{replacement, substituted}
-use Rattle.lk_formulas.specs.declared.referent.Referent.{Referent}
 use Rattle.lk_formulas.specs.Formulas.{formula_of, meaning, null}
 use Rattle.lk_formulas.specs.Referents.{AreTold, is_certain_referent, referent_of}
 use Rattle.lk_formulas.specs.Resolved.{resolved, resolved_in}

@@ -1,4 +1,4 @@
-use Rattle.std.proofs.Common.{◌≡◌, ◌≤◌, length}
+use Rattle.std.proofs.Common.{◌≤◌, length}
 use Rattle.lk_fields.specs.declared.rows.Rule.TheVariants.{Ends}
 use Rattle.lk_fields.specs.Rows.{marks_after}
 use Rattle.lk_formulas.specs.Filling.{AreRight, Covers}
