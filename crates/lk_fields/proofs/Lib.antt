@@ -1,7 +1,9 @@
 pub mod CountWithLaws
+pub mod CycleLaws
 pub mod DotLaws
 pub mod LostLaws
 pub mod MarkLaws
 pub mod NodeCountLaws
 pub mod PrefixLaws
+pub mod ReachingLaws
 pub mod SubstitutionLaws

@@ -1,5 +1,6 @@
 pub mod Existing
 pub mod FieldSets
+pub mod Reaching
 pub mod Rows
 pub mod Scopes
 pub mod Substituted

@@ -4,7 +4,8 @@ ghost use Rattle.lk_fields.specs.Rows.{marks_of};
 
 use crate::marks::{is_unmarked, last_marks};
 use crate::places::all_places;
-use crate::rows::{Rule, number_of, rows_of};
+use crate::reaching::reaches_itself;
+use crate::rows::{Row, Rule, number_of, rows_of};
 use crate::scope::{Place, Scope};
 use lk_objects::DeclaredView;
 use lk_val::{Items, NoMemory};
@@ -14,6 +15,7 @@ use std::alloc::Global;
 #[derive(Debug, Drop)]
 pub struct FieldSet {
     places: Items<Place>,
+    rows: Items<Row>,
     lost: Items<bool>,
     ending: Items<bool>,
 }
@@ -22,7 +24,7 @@ impl FieldSet {
     ghost use Rattle.std.specs.Prelude.{◌≡◌, IfOk, List};
     ghost use Rattle.lk_objects.specs.declared.view.DeclaredView.{DeclaredView};
     ghost use Rattle.lk_fields.specs.declared.scope.Scope.{Scope};
-    ghost use Rattle.lk_fields.specs.Existing.{exists, reaches_cycle};
+    ghost use Rattle.lk_fields.specs.Existing.{exists, is_on_cycle, reaches_cycle};
     ghost use Rattle.lk_fields.specs.FieldSets.{IsSetOf};
 
     /// The fields of a scope, computed once for all questions about it.
@@ -31,9 +33,11 @@ impl FieldSet {
     {
         let places = all_places(alloc, views, scope)?;
         let lost = marks_by(alloc, Rule::Loses, views, scope, places.as_slice())?;
-        let ending = marks_by(alloc, Rule::Ends, views, scope, places.as_slice())?;
+        let rows = rows_of(alloc, Rule::Ends, views, scope, places.as_slice())?;
+        let ending = last_marks(alloc, Rule::Ends, rows.as_slice())?;
         Ok(FieldSet {
             places,
+            rows,
             lost,
             ending,
         })
@@ -61,6 +65,21 @@ impl FieldSet {
             self.ending.as_slice(),
             number_of(self.places.as_slice(), place),
         )
+    }
+
+    /// Whether a place is that of a declared field which refers to itself through any number of references. A search that
+    /// visits each field at most once, and none where the field reaches no cycle.
+    pub fn is_on_cycle(&self, alloc: Global, place: Place) -> Result<bool, NoMemory>
+        ensures { (views : List DeclaredView) (scope : Scope) → IsSetOf views scope self.now
+            → IfOk result (λ is. is ≡ is_on_cycle views scope place) }
+    {
+        if !self.reaches_cycle(place) {
+            return Ok(false);
+        }
+        match number_of(self.places.as_slice(), place) {
+            None => Ok(false),
+            Some(number) => reaches_itself(alloc, self.rows.as_slice(), number),
+        }
     }
 }
 

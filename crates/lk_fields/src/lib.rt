@@ -8,6 +8,7 @@ mod marks;
 mod names;
 mod nodes;
 mod places;
+mod reaching;
 mod references;
 mod rows;
 mod scope;

@@ -21,7 +21,7 @@ pub(crate) fn last_marks(alloc: Global, rule: Rule, rows: &[Row]) -> Result<Item
     Ok(marks)
 }
 
-fn no_marks(alloc: Global, rows: &[Row]) -> Result<Items<bool>, NoMemory>
+pub(crate) fn no_marks(alloc: Global, rows: &[Row]) -> Result<Items<bool>, NoMemory>
     ensures { IfOk result (λ marks. marks ≡ no_marks rows.now) }
 {
     let mut marks = Items::new(alloc);
@@ -52,7 +52,7 @@ fn is_marked_after(rule: Rule, marks: &[bool], number: usize, row: &Row) -> bool
     is_marked(marks, number) || is_taken(rule, marks, row)
 }
 
-fn is_marked(marks: &[bool], number: usize) -> bool
+pub(crate) fn is_marked(marks: &[bool], number: usize) -> bool
     ensures { result ≡ is_marked marks.now number }
 {
     match marks.get(number) {

@@ -26,7 +26,7 @@ impl FieldTable {
     ghost use Rattle.lk_types.specs.declared.schema.Schema.{Schema};
     ghost use Rattle.lk_objects.specs.declared.view.DeclaredView.{DeclaredView};
     ghost use Rattle.lk_fields.specs.declared.scope.Scope.{Scope};
-    ghost use Rattle.lk_fields.specs.Existing.{exists, reaches_cycle};
+    ghost use Rattle.lk_fields.specs.Existing.{exists, is_on_cycle, reaches_cycle};
     ghost use Rattle.lk_formulas.specs.declared.columns.ColumnKinds.{ColumnKinds};
     ghost use Rattle.lk_formulas.specs.declared.columns.UnknownColumn.{UnknownColumn};
     ghost use Rattle.lk_formulas.specs.NumberSizes.{number_nodes, told};
@@ -125,6 +125,14 @@ impl FieldTable {
             → result ≡ reaches_cycle views scope place }
     {
         self.set.reaches_cycle(place)
+    }
+
+    /// Whether a place is that of a declared field which refers to itself through any number of references.
+    pub fn is_on_cycle(&self, alloc: Global, place: Place) -> Result<bool, NoMemory>
+        ensures { (schema : Schema) (views : List DeclaredView) (scope : Scope) (columns : ColumnKinds) (u : UnknownColumn) → IsTableOf schema views scope columns u self.now
+            → IfOk result (λ is. is ≡ is_on_cycle views scope place) }
+    {
+        self.set.is_on_cycle(alloc, place)
     }
 
     // What is kept of the field at a place.
