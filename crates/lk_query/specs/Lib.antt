@@ -1,0 +1,6 @@
+pub mod Refusals
+pub mod Callers
+pub mod Names
+pub mod Readings
+pub mod Bindings
+pub mod Rows

@@ -1,0 +1,96 @@
+// What a query of a caller binds to.
+
+ghost use Rattle.std.specs.Prelude.{◌≡◌, ◌≤◌, Ok, length};
+ghost use Rattle.std.specs.List.{AllByRecursion};
+ghost use Rattle.lk_val.specs.Memory.{IsUnlessMemory, UnlessMemory};
+ghost use Rattle.lk_body.specs.Faults.{is_no_memory};
+ghost use Rattle.lk_query.specs.Bindings.{IsBound, IsBoundFrom, bound_of, bound_with, checked};
+
+use crate::callers::{find_explore, find_user};
+use crate::filters::{Filters, filters_at};
+use crate::measures::{first_repeated, query_joins, query_measures};
+use crate::readings::read_texts;
+use crate::request::{Request, request_of};
+use lk_body::QueryFault;
+use lk_schema::Users;
+use lk_types::{Bound, Explore, Filter, Model, Pick, Query};
+use lk_val::{Items, NoMemory, Text};
+use std::alloc::Global;
+
+/// The query of a caller over an explore, by its name, with names as numbers and filters at a moment; or the first of its
+/// refusals Q2, Q1, Q8, Q4, Q5, Q6, Q7. The model is as it was resolved, so its own filters are not at a moment yet, and
+/// its explores have at most 31 joins. `now` counts seconds from 1970-01-01 00:00:00 UTC. (lookd)
+pub fn bind(
+    alloc: Global,
+    m: &Model,
+    users: &Users,
+    user: &Text,
+    explore: &Text,
+    q: &Query,
+    now: i64,
+) -> Result<Bound, QueryFault>
+    requires few { AllByRecursion (λ x. length x.joins ≤ 31) m.now.explores }
+    ensures { UnlessMemory is_no_memory result (IsBound m.now users.now user.now explore.now q.now now) }
+{
+    find_user(alloc, users, user)?;
+    let number = find_explore(alloc, m, explore)?;
+    let x = &m.explores.as_slice()[number as usize];
+    let request = request_of(alloc, x, users, user, q)?;
+    bind_request(alloc, x, number, q, request, now)
+}
+
+// The request with its access filters read, and then its own.
+fn bind_request(
+    alloc: Global,
+    x: &Explore,
+    number: u32,
+    q: &Query,
+    request: Request,
+    now: i64,
+) -> Result<Bound, QueryFault>
+    requires few { length x.now.joins ≤ 31 }
+    ensures { UnlessMemory is_no_memory result (IsBoundFrom x.now number q.now now (Ok request)) }
+{
+    let access = read_texts(alloc, request.access.as_slice())?;
+    let filters = read_texts(alloc, request.filters.as_slice())?;
+    let filters = filters_at(alloc, now, x, access.as_slice(), filters.as_slice())?;
+    let bound = bound_with(alloc, x, number, q, request, filters)?;
+    checked(alloc, x, bound)
+}
+
+fn bound_with(
+    alloc: Global,
+    x: &Explore,
+    number: u32,
+    q: &Query,
+    request: Request,
+    filters: Filters,
+) -> Result<Bound, NoMemory>
+    ensures { IfOk result (λ bound. bound ≡ bound_with x.now number q.now request filters) }
+{
+    let joins = query_joins(alloc, x, request.picks.as_slice(), &filters)?;
+    Ok(Bound {
+        explore: number,
+        picks: request.picks,
+        joins,
+        access: filters.access,
+        rows: filters.rows,
+        having: filters.having,
+        sorts: request.sorts,
+        limit: request.limit,
+        fresh: q.fresh,
+        csv: q.csv,
+    })
+}
+
+// The bound query, or Q7 for the first of its measures that counts repeated rows.
+fn checked(alloc: Global, x: &Explore, bound: Bound) -> Result<Bound, QueryFault>
+    requires few { length x.now.joins ≤ 31 }
+    ensures { IsUnlessMemory is_no_memory result (checked x.now bound) }
+{
+    let measures = query_measures(alloc, x, bound.picks.as_slice(), bound.having.as_slice())?;
+    match first_repeated(x, bound.joins.as_slice(), measures.as_slice()) {
+        Some(name) => Err(QueryFault::Q7(name.copy(alloc)?)),
+        None => Ok(bound),
+    }
+}

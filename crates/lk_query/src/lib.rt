@@ -1,0 +1,19 @@
+//! Queries bound to an explore: names as numbers, the caller's filters and its own at a moment, or the first refusal.
+#![tactic(auto)]
+
+mod binding;
+mod callers;
+mod filters;
+mod laws;
+mod measures;
+mod names;
+mod readings;
+mod request;
+mod rows;
+mod texts;
+
+pub use binding::bind;
+pub use callers::{find_explore, find_user};
+pub use laws::bound_queries_are_determined;
+pub use lk_body::QueryFault;
+pub use lk_schema::{Users, read_users};
