@@ -1,5 +1,5 @@
 -- Results of looking at a query: a value, a refusal, or want of memory.
-use Rattle.std.specs.Prelude.{Bool, true, false, List, ◌++◌, Result, Ok, Err}
+use Rattle.std.specs.Prelude.{Bool, true, false}
 use Rattle.lk_body.specs.declared.fault.QueryFault.{QueryFault}
 use Rattle.lk_body.specs.declared.fault.QueryFault.TheVariants.{NoMemory}
 

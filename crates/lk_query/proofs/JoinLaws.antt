@@ -1,0 +1,19 @@
+-- Measures that are only filtered on, as picks behind those of a query.
+use Rattle.std.proofs.Common.{◌≡◌, ℕ, List, [], ◌∷◌, ◌++◌, map, refl, ap}
+use Rattle.lk_types.specs.declared.model.Pick.{Pick}
+use Rattle.lk_types.specs.declared.model.Pick.TheVariants.{Dim, Mea}
+use Rattle.lk_semantics.specs.Answers.{dims_of, picked_measures}
+
+-- they add no dimension
+pub dims_with : (picks : List Pick) (measures : List ℕ) → dims_of (picks ++ map Mea measures) ≡ dims_of picks
+dims_with [] [] = refl
+dims_with [] (m ∷ measures) = dims_with [] measures
+dims_with (Dim f ∷ picks) measures = ap (λ fs. f ∷ fs) (dims_with picks measures)
+dims_with (Mea m ∷ picks) measures = dims_with picks measures
+
+-- and stand behind the picked measures
+pub measures_with : (picks : List Pick) (measures : List ℕ) → picked_measures (picks ++ map Mea measures) ≡ picked_measures picks ++ measures
+measures_with [] [] = refl
+measures_with [] (m ∷ measures) = ap (λ ms. m ∷ ms) (measures_with [] measures)
+measures_with (Dim f ∷ picks) measures = measures_with picks measures
+measures_with (Mea m ∷ picks) measures = ap (λ ms. m ∷ ms) (measures_with picks measures)

@@ -1,0 +1,5 @@
+pub mod BindingLaws
+pub mod InsertLaws
+pub mod JoinLaws
+pub mod ReadingLaws
+pub mod RowLaws
