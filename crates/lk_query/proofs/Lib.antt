@@ -1,5 +1,7 @@
 pub mod BindingLaws
+pub mod BoundLaws
 pub mod InsertLaws
 pub mod JoinLaws
+pub mod MemoryLaws
 pub mod ReadingLaws
 pub mod RowLaws

@@ -1,7 +1,7 @@
 -- Filters by the names of their fields: put in one by one from the last, and at their moment.
 use Rattle.std.proofs.Common.{◌≡◌, ◌∙◌, ℕ, zero, suc, ◌+◌, Bool, true, false, cond, not, List, [], ◌∷◌, ◌++◌, map, take, drop, refl, sym, ap, rw, arith}
-use Rattle.std.specs.Prelude.{ℤ, if◌then◌else◌}
-use Rattle.std.specs.List.{filter, insert, position_or_len}
+use Rattle.std.specs.Prelude.{ℤ, nat_eq, ◌||◌, if◌then◌else◌}
+use Rattle.std.specs.List.{filter, list_any, insert, position_or_len}
 use Rattle.std.proofs.lemmas.List.{map-append}
 use Rattle.lk_types.specs.Expressions.{has_number}
 use Rattle.lk_types.specs.declared.explore.Explore.{Explore}
@@ -11,6 +11,11 @@ use Rattle.lk_semantics.specs.Derived.{by_name, put_by_name, with_always}
 use Rattle.lk_filter.specs.PlacedModel.{placed_field_filter}
 use Rattle.lk_query.specs.Bindings.{each_placed}
 use Rattle.lk_query.specs.Rows.{is_first_field, left_out, stands_first, with_always_at}
+
+-- a filter on the field is one whose field is it
+pub any_filtered : (field : ℕ) (fs : List (ℕ × Filter)) → list_any (λ f. nat_eq field f.0) fs ≡ has_number field (filtered fs)
+any_filtered field [] = refl
+any_filtered field (f ∷ fs) = ap (λ b. nat_eq field f.0 || b) (any_filtered field fs)
 
 -- a filter put at its place
 pub put_at : (x : Explore) (f : ℕ × Filter) (gs : List (ℕ × Filter)) → insert gs (position_or_len (stands_first x f.0) gs) f ≡ put_by_name x f gs

@@ -1,6 +1,6 @@
 // What a query of a caller binds to.
 
-ghost use Rattle.std.specs.Prelude.{◌≡◌, ◌≤◌, Ok, length};
+ghost use Rattle.std.specs.Prelude.{◌≡◌, ◌≤◌, IfOk, Ok, length};
 ghost use Rattle.std.specs.List.{AllByRecursion};
 ghost use Rattle.lk_val.specs.Memory.{IsUnlessMemory, UnlessMemory};
 ghost use Rattle.lk_body.specs.Faults.{is_no_memory};

@@ -1,6 +1,6 @@
 // The filters of a bound query.
 
-ghost use Rattle.std.specs.Prelude.{◌≡◌, ◌++◌, IfOk, OnOk};
+ghost use Rattle.std.specs.Prelude.{◌≡◌, ◌++◌, ◌∷◌, [], IfOk, OnOk};
 ghost use Rattle.lk_query.specs.Bindings.{each_placed, filters_at, on_dims, on_measures};
 ghost use Rattle.lk_query.specs.Readings.{PickFilter};
 
@@ -20,6 +20,7 @@ pub struct Filters {
 
 /// The filters that were read, at a moment, with the explore's defaults for the fields that the query leaves out.
 /// (Looker, LookML reference: always_filter)
+#[tactic(auto, using(crate::proofs::RowLaws::always_placed))]
 pub(crate) fn filters_at(
     alloc: Global,
     now: i64,

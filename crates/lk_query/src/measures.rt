@@ -1,6 +1,6 @@
 // The joins and the measures of a bound query, and those that count repeated rows.
 
-ghost use Rattle.std.specs.Prelude.{◌≡◌, ◌≤◌, ◌++◌, IfOk, OnOk, is_some, length, map, option_map, slice_get};
+ghost use Rattle.std.specs.Prelude.{◌≡◌, ◌≤◌, ◌++◌, ◌∷◌, [], Some, IfOk, OnOk, is_some, length, map, option_map, slice_get};
 ghost use Rattle.lk_types.specs.declared.model.Pick.TheVariants.{Mea};
 ghost use Rattle.lk_semantics.specs.Answers.{components_of, filtered, picked_measures};
 ghost use Rattle.lk_semantics.specs.Derived.{query_joins};

@@ -1,8 +1,9 @@
 // The fields and measures of an explore by name and by number.
 
-ghost use Rattle.std.specs.Prelude.{◌≡◌, IfOk, position};
+ghost use Rattle.std.specs.Prelude.{◌≡◌, IfOk, option_map, position};
 ghost use Rattle.lk_val.specs.Memory.{IsUnlessMemory};
 ghost use Rattle.lk_val.specs.Texts.{is_same_text};
+ghost use Rattle.lk_types.specs.declared.model.Pick.TheVariants.{Mea};
 ghost use Rattle.lk_semantics.specs.Answers.{measure_at};
 ghost use Rattle.lk_semantics.specs.Rows.{field_at};
 ghost use Rattle.lk_body.specs.Faults.{is_no_memory};

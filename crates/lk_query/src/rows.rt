@@ -47,6 +47,7 @@ fn left_out(
     Ok(defaults)
 }
 
+#[tactic(auto, using(crate::proofs::RowLaws::any_filtered))]
 fn has_filter(filters: &[(u32, Filter)], field: u32) -> bool
     ensures { result ≡ has_number field (filtered filters.now) }
 {
@@ -67,6 +68,7 @@ fn joined(
 }
 
 // The filters by the names of their fields; those on one field stay in their order.
+#[tactic(auto, using(crate::proofs::RowLaws::all_put, crate::proofs::RowLaws::last_put))]
 fn by_name(
     alloc: Global,
     x: &Explore,
@@ -82,6 +84,7 @@ fn by_name(
     Ok(Items::from_vec(sorted))
 }
 
+#[tactic(auto, using(crate::proofs::RowLaws::put_at))]
 fn put_by_name(
     x: &Explore,
     sorted: &mut Vec<(u32, Filter)>,
