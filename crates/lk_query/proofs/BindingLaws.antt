@@ -1,11 +1,10 @@
 -- A query binds to one thing.
-use Rattle.std.proofs.Common.{◌≡◌, ◌∙◌, ℕ, List, [], ◌∷◌, refl, sym, ap, subst}
+use Rattle.std.proofs.Common.{◌≡◌, ◌∙◌, ℕ, List, ◌∷◌, refl, sym, ap, subst}
 use Rattle.std.specs.Prelude.{ℤ, ⊤, Result, Ok, Err}
 use Rattle.lk_filter.proofs.OneFilterLaws.{one_filter, one_fault_place}
 use Rattle.lk_types.specs.declared.bound.Bound.{Bound}
 use Rattle.lk_types.specs.declared.bound.Query.{Query}
 use Rattle.lk_types.specs.declared.explore.Explore.{Explore}
-use Rattle.lk_types.specs.declared.filter.Filter.{Filter}
 use Rattle.lk_types.specs.declared.model.Model.{Model}
 use Rattle.lk_semantics.specs.Derived.{explore_at}
 use Rattle.lk_schema.specs.declared.users.Users.{Users}

@@ -1,5 +1,5 @@
 -- Measures that are only filtered on, as picks behind those of a query.
-use Rattle.std.proofs.Common.{◌≡◌, ◌∙◌, ℕ, List, [], ◌∷◌, ◌++◌, map, refl, ap}
+use Rattle.std.proofs.Common.{◌≡◌, ◌∙◌, ℕ, List, [], ◌∷◌, ◌++◌, map, append_assoc, refl, sym, ap}
 use Rattle.lk_types.specs.declared.model.Pick.{Pick}
 use Rattle.lk_types.specs.declared.model.Pick.TheVariants.{Dim, Mea}
 use Rattle.lk_types.specs.declared.explore.Explore.{Explore}
@@ -26,4 +26,5 @@ pub joins_of : (x : Explore) (picks : List Pick) (rows access having : List (ℕ
     → joins_for x (dims_of all ++ fields) (picked_measures all) ≡ query_joins x picks rows access having
 joins_of x picks rows access having all fields p f =
     (λ i. joins_for x (dims_of (p i) ++ f i) (picked_measures (p i)))
-    ∙ (λ i. joins_for x (dims_with picks (filtered having) i ++ filtered rows ++ filtered access) (measures_with picks (filtered having) i))
+    ∙ (λ i. joins_for x (dims_with picks (filtered having) i ++ (filtered rows ++ filtered access)) (measures_with picks (filtered having) i))
+    ∙ ap (λ fields. joins_for x fields (picked_measures picks ++ filtered having)) (sym (append_assoc (dims_of picks) (filtered rows) (filtered access)))

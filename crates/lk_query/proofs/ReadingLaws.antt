@@ -6,10 +6,10 @@ use Rattle.lk_types.specs.declared.filter.Filter.{Filter}
 use Rattle.lk_filter.specs.FilterTexts.{IsFilterText}
 use Rattle.lk_body.specs.declared.fault.QueryFault.{QueryFault}
 use Rattle.lk_query.specs.Refusals.{in_front}
-use Rattle.lk_query.specs.Readings.{AreRead, IsRead, IsNoFilter, PickFilter, nothing, read, refused, later}
+use Rattle.lk_query.specs.Readings.{AreRead, IsRead, PickFilter, read, refused, later}
 use Rattle.lk_query.specs.declared.texts.FilterText.{FilterText}
 
-Rest : Type 0
+abbrev pub Rest : Type 0
 Rest = Result (List PickFilter) QueryFault
 
 more_in_front : (front : List PickFilter) (f : PickFilter) (rest : Rest) → in_front (front ++ f ∷ []) rest ≡ in_front front (in_front (f ∷ []) rest)

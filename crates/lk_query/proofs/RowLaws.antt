@@ -1,6 +1,6 @@
 -- Filters by the names of their fields: put in one by one from the last, and at their moment.
-use Rattle.std.proofs.Common.{◌≡◌, ◌∙◌, ℕ, zero, suc, ◌+◌, Bool, true, false, cond, not, List, [], ◌∷◌, ◌++◌, map, take, drop, refl, sym, ap, rw, arith}
-use Rattle.std.specs.Prelude.{ℤ, nat_eq, ◌||◌, if◌then◌else◌}
+use Rattle.std.proofs.Common.{◌≡◌, ◌∙◌, ℕ, suc, ◌+◌, true, false, cond, not, List, [], ◌∷◌, ◌++◌, refl, sym, ap, arith}
+use Rattle.std.specs.Prelude.{ℤ, nat_eq, ◌||◌}
 use Rattle.std.specs.List.{filter, list_any, insert, position_or_len}
 use Rattle.std.proofs.lemmas.List.{map-append}
 use Rattle.lk_types.specs.Expressions.{has_number}
@@ -10,7 +10,7 @@ use Rattle.lk_semantics.specs.Answers.{filtered}
 use Rattle.lk_semantics.specs.Derived.{by_name, put_by_name, with_always}
 use Rattle.lk_filter.specs.PlacedModel.{placed_field_filter}
 use Rattle.lk_query.specs.Bindings.{each_placed}
-use Rattle.lk_query.specs.Rows.{is_first_field, left_out, stands_first, with_always_at}
+use Rattle.lk_query.specs.Rows.{is_first_field, stands_first, with_always_at}
 
 -- a filter on the field is one whose field is it
 pub any_filtered : (field : ℕ) (fs : List (ℕ × Filter)) → list_any (λ f. nat_eq field f.0) fs ≡ has_number field (filtered fs)
@@ -22,7 +22,7 @@ pub put_at : (x : Explore) (f : ℕ × Filter) (gs : List (ℕ × Filter)) → i
 put_at x f [] = refl
 put_at x f (g ∷ gs) = elim (is_first_field x f.0 g.0) as (λ b. insert (g ∷ gs) (cond (not b) (1 + position_or_len (stands_first x f.0) gs) 0) f ≡ cond b (f ∷ g ∷ gs) (g ∷ put_by_name x f gs)) [
   | true ↦ refl
-  | false ↦ ap (λ t. g ∷ t) (put_at x f gs)
+  | false ↦ let n = position_or_len (stands_first x f.0) gs in let next : 1 + n ≡ suc n = omega arith in ap (λ i. insert (g ∷ gs) i f) next ∙ ap (λ t. g ∷ t) (put_at x f gs)
 ]
 
 -- filters put into others, the last one first
@@ -57,6 +57,7 @@ module _ (now : ℤ) (x : Explore) where
   -- the filters with the defaults, at a moment
   pub always_placed : (fs : List (ℕ × Filter)) → with_always_at now x (each_placed now fs) ≡ each_placed now (with_always x fs)
   always_placed fs =
-      ap (λ ns. by_name x (each_placed now fs ++ each_placed now (filter (λ (f : ℕ × Filter). not (has_number f.0 ns)) x.always))) (filtered_placed fs)
-      ∙ ap (by_name x) (sym (map-append (placed_field_filter now) fs (left_out fs x.always)))
-      ∙ sym (by_name_placed (fs ++ left_out fs x.always))
+      (λ i. by_name x (each_placed now fs ++ each_placed now (filter (λ (f : ℕ × Filter). not (any_filtered f.0 (each_placed now fs) i)) x.always)))
+      ∙ ap (λ ns. by_name x (each_placed now fs ++ each_placed now (filter (λ (f : ℕ × Filter). not (has_number f.0 ns)) x.always))) (filtered_placed fs)
+      ∙ ap (by_name x) (sym (map-append (placed_field_filter now) fs (filter (λ (f : ℕ × Filter). not (has_number f.0 (filtered fs))) x.always)))
+      ∙ sym (by_name_placed (fs ++ filter (λ (f : ℕ × Filter). not (has_number f.0 (filtered fs))) x.always))

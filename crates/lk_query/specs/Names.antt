@@ -1,10 +1,9 @@
 -- What the names of a query are in an explore, or the first refusal.
-use Rattle.std.specs.Prelude.{ℕ, ◌&&◌, Bool, if◌then◌else◌, ℤ, pos, int_le, unsigned_abs, List, [], ◌∷◌, position, Option, Some, None, option_map, Result, Ok, Err}
+use Rattle.std.specs.Prelude.{ℕ, ◌&&◌, Bool, if◌then◌else◌, ℤ, pos, int_le, unsigned_abs, List, [], position, Option, Some, None, option_map, Result, Ok, Err}
 use Rattle.std.specs.Ordering.{nat_cmp, is_lt}
 use Rattle.std.specs.Cmp.Lexicographic.{slice_cmp}
 use Rattle.std.specs.List.{fold, insert, position_or_len}
 use Rattle.lk_val.specs.Texts.{is_same_text}
-use Rattle.lk_types.specs.declared.bound.Query.{Query}
 use Rattle.lk_types.specs.declared.bound.Sort.{Sort}
 use Rattle.lk_types.specs.declared.explore.Explore.{Explore}
 use Rattle.lk_types.specs.declared.model.Pick.{Pick}

@@ -15,5 +15,5 @@ mod texts;
 pub use binding::bind;
 pub use callers::{find_explore, find_user};
 pub use laws::bound_queries_are_determined;
-pub use lk_body::QueryFault;
+pub use lk_body::{QueryFault, read_query};
 pub use lk_schema::{Users, read_users};

@@ -74,7 +74,7 @@ fn measure_place(measures: &[Measure], name: &Text) -> Option<usize>
     measures.iter().position(|measure| *name == measure.name)
 }
 
-/// The place of an item as its number. No list in memory is longer than 32 bits say, so a later one is want of memory.
+/// The place of an item as its number. No list in memory is longer than 32 bits can say, so a later place is want of memory.
 pub(crate) fn number_of(place: usize) -> Result<u32, NoMemory>
     ensures { IfOk result (λ number. number ≡ place) }
 {

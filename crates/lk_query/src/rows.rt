@@ -1,9 +1,7 @@
 // The filters on dimensions, with the explore's defaults, by the names of their fields.
 
-ghost use Rattle.std.specs.Prelude.{◌≡◌, ◌≤◌, ◌++◌, IfOk, OnOk, filter, length, not};
-ghost use Rattle.std.specs.List.{position_or_len};
-ghost use Rattle.lk_types.specs.Expressions.{has_number};
-ghost use Rattle.lk_semantics.specs.Answers.{filtered};
+ghost use Rattle.std.specs.Prelude.{◌≡◌, ◌≤◌, ◌++◌, ◌∷◌, [], IfOk, OnOk, length, nat_eq};
+ghost use Rattle.std.specs.List.{list_any, position_or_len};
 ghost use Rattle.lk_semantics.specs.Derived.{by_name, put_by_name};
 ghost use Rattle.lk_query.specs.Bindings.{each_placed};
 ghost use Rattle.lk_query.specs.Rows.{is_first_field, left_out, stands_first, with_always_at};
@@ -40,16 +38,30 @@ fn left_out(
 {
     let mut defaults = Items::new(alloc);
     for filter in x.always.as_slice() {
-        if !has_filter(filters, filter.0) {
-            defaults.push((filter.0, place(alloc, &filter.1, now)?))?;
-        }
+        add_left_out(alloc, now, filters, filter, &mut defaults)?;
     }
     Ok(defaults)
 }
 
-#[tactic(auto, using(crate::proofs::RowLaws::any_filtered))]
+// Adds a default, unless some filter is on its field.
+fn add_left_out(
+    alloc: Global,
+    now: i64,
+    filters: &[(u32, Filter)],
+    filter: &(u32, Filter),
+    defaults: &mut Items<(u32, Filter)>,
+) -> Result<(), NoMemory>
+    ensures { OnOk result (defaults.new
+        ≡ defaults.old ++ each_placed now (left_out filters.now (filter.now ∷ []))) }
+{
+    if !has_filter(filters, filter.0) {
+        defaults.push((filter.0, place(alloc, &filter.1, now)?))?;
+    }
+    Ok(())
+}
+
 fn has_filter(filters: &[(u32, Filter)], field: u32) -> bool
-    ensures { result ≡ has_number field (filtered filters.now) }
+    ensures { result ≡ list_any (λ f. nat_eq field f.0) filters.now }
 {
     filters.iter().any(|filter| field == filter.0)
 }
@@ -61,9 +73,8 @@ fn joined(
     ensures { IfOk result (λ all. all.items ≡ filters ++ more) }
 {
     let mut all = filters.into_vec();
-    for filter in more.into_vec() {
-        all.push(filter)?;
-    }
+    let mut more = more.into_vec();
+    all.append(&mut more)?;
     Ok(all)
 }
 
@@ -84,7 +95,6 @@ fn by_name(
     Ok(Items::from_vec(sorted))
 }
 
-#[tactic(auto, using(crate::proofs::RowLaws::put_at))]
 fn put_by_name(
     x: &Explore,
     sorted: &mut Vec<(u32, Filter)>,

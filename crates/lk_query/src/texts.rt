@@ -111,10 +111,7 @@ fn by_name<'a>(
     Ok(sorted)
 }
 
-fn put_in<'a>(
-    filters: &mut Vec<&'a (Text, Text)>,
-    filter: &'a (Text, Text),
-) -> Result<(), NoMemory>
+fn put_in<'a>(filters: &mut Vec<&'a (Text, Text)>, filter: &'a (Text, Text)) -> Result<(), NoMemory>
     ensures { IfOk result (λ _. map (λ f. f.now) filters.new.items
         ≡ put_in (map (λ f. f.now) filters.old.items) filter.now) }
 {
