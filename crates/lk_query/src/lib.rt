@@ -14,6 +14,6 @@ mod texts;
 
 pub use binding::bind;
 pub use callers::{find_explore, find_user};
-pub use laws::bound_queries_are_determined;
+pub use laws::{bound_queries_are_determined, bound_queries_are_in_their_model};
 pub use lk_body::{QueryFault, read_query};
 pub use lk_schema::{Users, read_users};
