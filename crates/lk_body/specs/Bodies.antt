@@ -84,7 +84,8 @@ has_known_keys no_members = true
 has_known_keys (member k d ms) = list_any (is_same_text k) known_keys && has_known_keys ms
 
 -- the query of these parts, if all are there
-abbrev pub query_from : Option (List (List ℕ)) → Option (List (List ℕ × List ℕ)) → Option (List (List ℕ × Bool)) → Option ℤ → Option Bool → Option Bool → Option Query
+abbrev pub query_from : Option (List (List ℕ)) → Option (List (List ℕ × List ℕ)) → Option (List (List ℕ × Bool))
+    → Option ℤ → Option Bool → Option Bool → Option Query
 query_from (Some fields) (Some filters) (Some sorts) (Some limit) (Some fresh) (Some csv) =
     Some (record { fields = fields; filters = filters; sorts = sorts; limit = limit; fresh = fresh; csv = csv })
 query_from fields filters sorts limit fresh csv = None

@@ -122,7 +122,8 @@ fn query_from(
 }
 
 fn fields_in(alloc: Global, value: Option<&Value>) -> Result<Option<Items<Text>>, NoMemory>
-    ensures { IfOk result (λ fields. fields ≡ fields_in (option_map (λ v. view v.now) value.entry)) }
+    ensures { IfOk result (λ fields. fields
+        ≡ fields_in (option_map (λ v. view v.now) value.entry)) }
 {
     let Some(value) = value else {
         return Ok(None);
@@ -161,7 +162,8 @@ fn if_few<T: Drop>(items: Option<Items<T>>) -> Option<Items<T>>
 }
 
 fn filters_in(alloc: Global, value: Option<&Value>) -> Result<Option<Items<(Text, Text)>>, NoMemory>
-    ensures { IfOk result (λ filters. filters ≡ filters_in (option_map (λ v. view v.now) value.entry)) }
+    ensures { IfOk result (λ filters. filters
+        ≡ filters_in (option_map (λ v. view v.now) value.entry)) }
 {
     let Some(value) = value else {
         return Ok(Some(Items::new(alloc)));

@@ -33,7 +33,8 @@ fn sort_with(
     text: &str,
 ) -> Result<(Text, bool), NoMemory>
     ensures { IfOk result (λ sort. sort
-        ≡ sort_with (option_map (λ name. name.now) descending.entry) (option_map (λ name. name.now) ascending.entry) text.now) }
+        ≡ sort_with (option_map (λ name. name.now) descending.entry)
+        (option_map (λ name. name.now) ascending.entry) text.now) }
 {
     match (descending, ascending) {
         (Some(name), _) => Ok((Text::from_str(alloc, name)?, true)),

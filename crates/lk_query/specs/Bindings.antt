@@ -29,7 +29,8 @@ use Rattle.lk_query.specs.declared.texts.FilterText.{FilterText}
 -- ---- what is known before any filter is read
 
 -- the parts together, or the first refusal of them
-abbrev pub request_from : Result ℕ QueryFault → Result (List Pick) QueryFault → Result (List FilterText) QueryFault → Result (List Sort) QueryFault → Result (List FilterText) QueryFault → Result Request QueryFault
+abbrev pub request_from : Result ℕ QueryFault → Result (List Pick) QueryFault → Result (List FilterText) QueryFault
+    → Result (List Sort) QueryFault → Result (List FilterText) QueryFault → Result Request QueryFault
 request_from (Err fault) picks filters sorts access = Err fault
 request_from (Ok limit) (Err fault) filters sorts access = Err fault
 request_from (Ok limit) (Ok picks) (Err fault) sorts access = Err fault

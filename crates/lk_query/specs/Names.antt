@@ -26,10 +26,16 @@ abbrev pub or_measure : Option ℕ → Option ℕ → Option Pick
 or_measure (Some f) measure = Some (Dim f)
 or_measure None measure = option_map Mea measure
 
+-- the number of the dimension of a name, and of the measure
+abbrev pub field_named : Explore → List ℕ → Option ℕ
+field_named x name = position (λ f. is_same_text name f.name) x.fields
+
+abbrev pub measure_named : Explore → List ℕ → Option ℕ
+measure_named x name = position (λ m. is_same_text name m.name) x.measures
+
 -- the dimension of a name, or else the measure
 abbrev pub pick_named : Explore → List ℕ → Option Pick
-pick_named x name =
-    or_measure (position (λ f. is_same_text name f.name) x.fields) (position (λ m. is_same_text name m.name) x.measures)
+pick_named x name = or_measure (field_named x name) (measure_named x name)
 
 -- ---- filters
 

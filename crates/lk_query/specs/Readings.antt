@@ -24,6 +24,9 @@ IsRead t (Err fault) = (place : ℕ) × IsNoFilter t place × (fault ≡ Q6 t.na
 -- the texts spell these filters, in their order; or the first that spells none is refused (Q6)
 pub data AreRead : List FilterText → Result (List PickFilter) QueryFault → Type 0 where
   nothing : AreRead [] (Ok [])
-  read : {t : FilterText} {ts : List FilterText} {f : Filter} {fs : List PickFilter} → IsFilterText t.kind f t.text → AreRead ts (Ok fs) → AreRead (t ∷ ts) (Ok ((t.on, f) ∷ fs))
-  refused : {t : FilterText} {ts : List FilterText} {place : ℕ} → IsNoFilter t place → AreRead (t ∷ ts) (Err (Q6 t.name place))
-  later : {t : FilterText} {ts : List FilterText} {fault : QueryFault} (f : Filter) → IsFilterText t.kind f t.text → AreRead ts (Err fault) → AreRead (t ∷ ts) (Err fault)
+  read : {t : FilterText} {ts : List FilterText} {f : Filter} {fs : List PickFilter}
+      → IsFilterText t.kind f t.text → AreRead ts (Ok fs) → AreRead (t ∷ ts) (Ok ((t.on, f) ∷ fs))
+  refused : {t : FilterText} {ts : List FilterText} {place : ℕ}
+      → IsNoFilter t place → AreRead (t ∷ ts) (Err (Q6 t.name place))
+  later : {t : FilterText} {ts : List FilterText} {fault : QueryFault} (f : Filter)
+      → IsFilterText t.kind f t.text → AreRead ts (Err fault) → AreRead (t ∷ ts) (Err fault)

@@ -30,7 +30,8 @@ pub fn bind(
     now: i64,
 ) -> Result<Bound, QueryFault>
     requires few { AllByRecursion (λ x. length x.joins ≤ 31) m.now.explores }
-    ensures { UnlessMemory is_no_memory result (IsBound m.now users.now user.now explore.now q.now now) }
+    ensures { UnlessMemory is_no_memory result
+        (IsBound m.now users.now user.now explore.now q.now now) }
 {
     find_user(alloc, users, user)?;
     let number = find_explore(alloc, m, explore)?;

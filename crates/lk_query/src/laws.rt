@@ -12,7 +12,8 @@ ghost use Rattle.lk_query.specs.Bindings.{IsBound};
 
 /// A query of a caller at a moment binds to one query, or has one first refusal. A law: it computes nothing.
 pub fn bound_queries_are_determined()
-    ensures { (m : Model) (users : Users) (user explore : List ℕ) (q : Query) (now : ℤ) (r s : Result Bound QueryFault)
+    ensures { (m : Model) (users : Users) (user explore : List ℕ) (q : Query) (now : ℤ)
+        (r s : Result Bound QueryFault)
         → IsBound m users user explore q now r → IsBound m users user explore q now s → r ≡ s }
 {}
 

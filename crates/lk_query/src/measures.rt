@@ -44,7 +44,8 @@ fn with_filtered(
 }
 
 fn filtered_fields(alloc: Global, filters: &Filters) -> Result<Items<u32>, NoMemory>
-    ensures { IfOk result (λ fields. fields ≡ filtered filters.now.rows ++ filtered filters.now.access) }
+    ensures { IfOk result (λ fields. fields
+        ≡ filtered filters.now.rows ++ filtered filters.now.access) }
 {
     let mut fields = Items::new(alloc);
     add_filtered(&mut fields, filters.rows.as_slice())?;
@@ -69,7 +70,8 @@ pub(crate) fn query_measures(
     picks: &[Pick],
     having: &[(u32, Filter)],
 ) -> Result<Items<u32>, NoMemory>
-    ensures { IfOk result (λ measures. measures ≡ components_of x.now (picked_measures picks.now ++ filtered having.now)) }
+    ensures { IfOk result (λ measures. measures
+        ≡ components_of x.now (picked_measures picks.now ++ filtered having.now)) }
 {
     let mut measures = picked_measures(alloc, picks)?;
     add_filtered(&mut measures, having)?;
@@ -126,7 +128,8 @@ fn repeated_name<'a>(x: &'a Explore, joins: &[u32], m: u32) -> Option<&'a Text>
 
 fn name_if_repeated<'a>(x: &Explore, joins: &[u32], measure: &'a Measure) -> Option<&'a Text>
     requires few { length x.now.joins ≤ 31 }
-    ensures { option_map (λ name. name.now) result ≡ repeated_name x.now joins.now (Some measure.now) }
+    ensures { option_map (λ name. name.now) result
+        ≡ repeated_name x.now joins.now (Some measure.now) }
 {
     if counts_repeated(x, joins, measure) {
         Some(&measure.name)

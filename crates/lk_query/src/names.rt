@@ -7,7 +7,7 @@ ghost use Rattle.lk_types.specs.declared.model.Pick.TheVariants.{Mea};
 ghost use Rattle.lk_semantics.specs.Answers.{measure_at};
 ghost use Rattle.lk_semantics.specs.Rows.{field_at};
 ghost use Rattle.lk_body.specs.Faults.{is_no_memory};
-ghost use Rattle.lk_query.specs.Names.{limit_of, named_sort, pick_kind, pick_named, picks_of, sorts_of};
+ghost use Rattle.lk_query.specs.Names.{limit_of, measure_named, named_sort, pick_kind, pick_named, picks_of, sorts_of};
 
 use lk_body::QueryFault;
 use lk_types::{Explore, Field, Kind, Measure, Pick, Sort};
@@ -54,7 +54,7 @@ pub(crate) fn pick_named(x: &Explore, name: &Text) -> Result<Option<Pick>, NoMem
 }
 
 fn measure_named(x: &Explore, name: &Text) -> Result<Option<Pick>, NoMemory>
-    ensures { IfOk result (λ pick. pick ≡ option_map Mea (position (λ m. is_same_text name.now m.name) x.now.measures)) }
+    ensures { IfOk result (λ pick. pick ≡ option_map Mea (measure_named x.now name.now)) }
 {
     match measure_place(x.measures.as_slice(), name) {
         Some(m) => Ok(Some(Pick::Mea(number_of(m)?))),
@@ -74,7 +74,8 @@ fn measure_place(measures: &[Measure], name: &Text) -> Option<usize>
     measures.iter().position(|measure| *name == measure.name)
 }
 
-/// The place of an item as its number. No list in memory is longer than 32 bits can say, so a later place is want of memory.
+/// The place of an item as its number. No list in memory is longer than 32 bits can say, so a later place is want of
+/// memory.
 pub(crate) fn number_of(place: usize) -> Result<u32, NoMemory>
     ensures { IfOk result (λ number. number ≡ place) }
 {

@@ -34,7 +34,8 @@ fn left_out(
     x: &Explore,
     filters: &[(u32, Filter)],
 ) -> Result<Items<(u32, Filter)>, NoMemory>
-    ensures { IfOk result (λ defaults. defaults ≡ each_placed now (left_out filters.now x.now.always)) }
+    ensures { IfOk result (λ defaults. defaults
+        ≡ each_placed now (left_out filters.now x.now.always)) }
 {
     let mut defaults = Items::new(alloc);
     for filter in x.always.as_slice() {

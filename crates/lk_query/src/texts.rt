@@ -122,7 +122,8 @@ fn put_in<'a>(filters: &mut Vec<&'a (Text, Text)>, filter: &'a (Text, Text)) -> 
 
 // The place of the first that the filter goes before, and else the end.
 fn place_of(filters: &[&(Text, Text)], filter: &(Text, Text)) -> usize
-    ensures first { result ≡ position_or_len (goes_before filter.now) (map (λ f. f.now) filters.now) }
+    ensures first { result
+        ≡ position_or_len (goes_before filter.now) (map (λ f. f.now) filters.now) }
     ensures within { result ≤ length filters.now }
 {
     for place in 0..filters.len() {
