@@ -1,0 +1,61 @@
+ghost use Rattle.std.specs.Prelude.{◌≡◌, IfOk, true};
+ghost use Rattle.lk_types.specs.Dates.{are_literals_dated};
+
+use crate::explore::explore_of;
+use crate::shown::Shown;
+use crate::tables::sources_of;
+use case_lines::CaseFault;
+use lk_exec::{ExecFault, visible};
+use lk_types::{Expr, Node};
+use lk_val::{Items, Text, Value};
+use std::alloc::Global;
+
+/// The answer of a line: the rows, with `-` for a view that is null, or `many` where they are more than the cap.
+pub fn answer_line(alloc: Global, line: &str) -> Result<Text, CaseFault> {
+    if line.is_empty() || line.starts_with("#") {
+        return Ok(Text::from_str(alloc, line)?);
+    }
+    let (joins, rest) = line.split_once(" | ").ok_or(CaseFault::NoSuchCase)?;
+    let (cap, tables) = rest.split_once(" | ").ok_or(CaseFault::NoSuchCase)?;
+    answer(alloc, joins, cap_of(cap)?, tables)
+}
+
+// A number, or `-` for none.
+fn cap_of(word: &str) -> Result<Option<u64>, CaseFault> {
+    if word == "-" {
+        return Ok(None);
+    }
+    Ok(Some(word.parse::<u64>().or(Err(CaseFault::NoSuchCase))?))
+}
+
+fn answer(alloc: Global, joins: &str, cap: Option<u64>, tables: &str) -> Result<Text, CaseFault> {
+    let sources = sources_of(alloc, tables)?;
+    let explore = explore_of(alloc, joins, sources.stored.len())?;
+    let mut numbers = Items::new(alloc);
+    for number in 0..explore.joins.len() {
+        numbers.push(u32::try_from(number).or(Err(CaseFault::NoSuchCase))?)?;
+    }
+    let passes = always(alloc)?;
+    let mut shown = Shown::new(alloc);
+    let seen = visible(
+        alloc,
+        &explore,
+        &sources,
+        numbers.as_slice(),
+        &passes,
+        cap,
+        &mut shown,
+    );
+    match seen {
+        Ok(_) => Ok(shown.into_text(alloc)?),
+        Err(ExecFault::Many) => Ok(Text::from_str(alloc, "many")?),
+        Err(ExecFault::NoMemory) => Err(CaseFault::NoMemory),
+    }
+}
+
+// The condition that every row passes.
+fn always(alloc: Global) -> Result<Expr, CaseFault>
+    ensures { IfOk result (λ e. are_literals_dated e ≡ true) }
+{
+    Ok(Expr::leaf(alloc, Node::Literal(Value::Truth(true)))?)
+}

@@ -1,0 +1,87 @@
+ghost use Rattle.std.specs.Prelude.{◌≡◌, IfOk, true};
+ghost use Rattle.std.specs.List.{AllPass, list_all};
+ghost use Rattle.lk_types.specs.Dates.{is_dated};
+ghost use Rattle.lk_semantics.specs.DatedRows.{are_rows_dated, are_sources_dated};
+
+use case_lines::CaseFault;
+use lk_cell::{cells_are_of_their_kind, read_cell};
+use lk_types::{Kind, Sources};
+use lk_val::{Items, Num, Text, Value};
+use std::alloc::Global;
+
+/// The stored tables that a text writes: tables between bars, rows between commas, cells between spaces.
+pub fn sources_of(alloc: Global, text: &str) -> Result<Sources, CaseFault>
+    ensures { IfOk result (λ sources. are_sources_dated sources ≡ true) }
+{
+    Ok(Sources {
+        stored: tables_of(alloc, text)?,
+        derived: Items::new(alloc),
+    })
+}
+
+fn tables_of(alloc: Global, text: &str) -> Result<Items<Items<Items<Value>>>, CaseFault>
+    ensures { IfOk result (λ tables. AllPass are_rows_dated tables) }
+{
+    let mut tables = Items::new(alloc);
+    for table in text.split('|') {
+        tables.push(table_of(alloc, table.trim())?)?;
+    }
+    Ok(tables)
+}
+
+fn table_of(alloc: Global, text: &str) -> Result<Items<Items<Value>>, CaseFault>
+    ensures { IfOk result (λ rows. are_rows_dated rows ≡ true) }
+{
+    let rows = rows_of(alloc, text)?;
+    Ok(rows)
+}
+
+// No row where the text is `-`.
+fn rows_of(alloc: Global, text: &str) -> Result<Items<Items<Value>>, CaseFault>
+    ensures { IfOk result (λ rows. AllPass (list_all is_dated) rows) }
+{
+    let mut rows = Items::new(alloc);
+    for row in text.split(',') {
+        if row != "-" {
+            rows.push(row_of(alloc, row.trim())?)?;
+        }
+    }
+    Ok(rows)
+}
+
+fn row_of(alloc: Global, text: &str) -> Result<Items<Value>, CaseFault>
+    ensures { IfOk result (λ row. list_all is_dated row ≡ true) }
+{
+    let cells = cells_of(alloc, text)?;
+    Ok(cells)
+}
+
+fn cells_of(alloc: Global, text: &str) -> Result<Items<Value>, CaseFault>
+    ensures { IfOk result (AllPass is_dated) }
+{
+    let mut cells = Items::new(alloc);
+    for word in text.split(' ') {
+        cells.push(value_of(alloc, word)?)?;
+    }
+    Ok(cells)
+}
+
+// The value that a word writes: `null`, a number, a day, a moment as `2024-01-31T23:59:59`, and else a text.
+fn value_of(alloc: Global, word: &str) -> Result<Value, CaseFault>
+    ensures { IfOk result (λ value. is_dated value ≡ true) }
+{
+    if word == "null" {
+        return Ok(Value::Null);
+    }
+    if let Ok(number) = Num::read(word.as_bytes()) {
+        return Ok(Value::Num(number));
+    }
+    cells_are_of_their_kind();
+    if let Some(value) = read_cell(alloc, Kind::Day, word.as_bytes())? {
+        return Ok(value);
+    }
+    match read_cell(alloc, Kind::Moment, word.as_bytes())? {
+        Some(value) => Ok(value),
+        None => Ok(Value::Text(Text::from_str(alloc, word)?)),
+    }
+}
