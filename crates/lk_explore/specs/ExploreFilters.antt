@@ -15,23 +15,21 @@ use Rattle.lk_params.specs.declared.number.Order.TheVariants as order
 use Rattle.lk_params.specs.declared.number.Number.TheVariants.{N11}
 use Rattle.lk_params.specs.declared.finding.Finding.{Finding}
 use Rattle.lk_params.specs.Findings.{finding, named_line, soonest}
-use Rattle.lk_params.specs.Known.{block_findings}
 use Rattle.lk_params.specs.Parameters.{items_of}
 use Rattle.lk_params.specs.Values as values
 use Rattle.lk_written.specs.CodeFindings.{code_findings}
 use Rattle.lk_written.specs.Codes.{IsCode}
-use Rattle.lk_written.specs.FilterFindings.{filters_findings}
 use Rattle.lk_written.specs.ReadFilters.{AreFilters}
-use Rattle.lk_written.specs.Values.{filters_at, text_at}
+use Rattle.lk_written.specs.ValueFindings.{wrong}
+use Rattle.lk_written.specs.Values.{filters_at, is_missing, text_at}
+use Rattle.lk_explore.specs.PartFindings.{part_findings}
 use Rattle.lk_explore.specs.Values.{plain_items, wrong_at}
 
 -- ---- `always_filter`, given the name of the explore
 
--- another value than a block without a name, or what its own parameters show
+-- another value than a block without a name, or what stands wrong in it
 abbrev pub always_findings : List ℕ → Node → List Finding
-always_findings explore (node.Block None inner) =
-    block_findings order.Object owner.AlwaysFilter explore None (items_of inner)
-    ++ filters_findings order.Object explore (codes "filters") (items_of inner)
+always_findings explore (node.Block None inner) = part_findings owner.AlwaysFilter explore (codes "always_filter") (items_of inner)
 always_findings explore value = wrong_at explore (codes "always_filter") true
 
 pub record IsAlways (explore : List ℕ) (value : Node) (f : AlwaysFilter) : Type 0 where
@@ -40,15 +38,16 @@ pub record IsAlways (explore : List ℕ) (value : Node) (f : AlwaysFilter) : Typ
 
 -- ---- `access_filter`
 
--- the parameter is missing, or its value is no word or string
-abbrev pub lacks_text : List ℕ → List Item → Bool
-lacks_text name items = not (is_some (text_at name items))
+-- a parameter of the block that is missing
+abbrev pub missing_in : List ℕ → List ℕ → List Item → List Finding
+missing_in explore name items = wrong order.Object explore (codes "access_filter") name (is_missing name items)
 
+-- another value than a block without a name, or what stands wrong in it, and then what is missing
 abbrev pub access_findings : List ℕ → Node → List Finding
 access_findings explore (node.Block None inner) =
-    block_findings order.Object owner.AccessFilter explore None (items_of inner)
-    ++ wrong_at explore (codes "field") (lacks_text (codes "field") (items_of inner))
-    ++ wrong_at explore (codes "user_attribute") (lacks_text (codes "user_attribute") (items_of inner))
+    part_findings owner.AccessFilter explore (codes "access_filter") (items_of inner)
+    ++ missing_in explore (codes "field") (items_of inner)
+    ++ missing_in explore (codes "user_attribute") (items_of inner)
 access_findings explore value = wrong_at explore (codes "access_filter") true
 
 abbrev pub access_of : List ℕ → Node → AccessFilter

@@ -3,6 +3,7 @@ pub mod Intervals
 pub mod Triggers
 pub mod Datagroups
 pub mod Joins
+pub mod PartFindings
 pub mod ExploreFilters
 pub mod Rollups
 pub mod Explores

@@ -1,6 +1,5 @@
 -- What an aggregate table says, and its first fault. (Looker, LookML reference: aggregate_table)
 use Rattle.std.specs.Prelude.{◌≡◌, ℕ, Bool, true, not, ◌&&◌, if◌then◌else◌, List, [], ◌∷◌, ◌++◌, map, length, None, codes}
-use Rattle.std.specs.List.{flat_map}
 use Rattle.lk_val.specs.Texts.{is_same_text}
 use Rattle.lk_read.specs.declared.tree.Item.{Item}
 use Rattle.lk_read.specs.declared.tree.Node.{Node}
@@ -8,20 +7,18 @@ use Rattle.lk_read.specs.declared.tree.Node.TheVariants as node
 use Rattle.lk_objects.specs.declared.explore.AggregateTable.{AggregateTable}
 use Rattle.lk_objects.specs.declared.view.Entry.{Entry}
 use Rattle.lk_objects.specs.declared.view.Entry.TheVariants as entry
-use Rattle.lk_params.specs.declared.owner.Owner.{Owner}
 use Rattle.lk_params.specs.declared.owner.Owner.TheVariants as owner
 use Rattle.lk_params.specs.declared.number.Order.TheVariants as order
 use Rattle.lk_params.specs.declared.finding.Finding.{Finding}
 use Rattle.lk_params.specs.Findings.{soonest}
-use Rattle.lk_params.specs.Known.{along, block_findings}
+use Rattle.lk_params.specs.Known.{along, item_findings}
 use Rattle.lk_params.specs.Parameters.{items_of}
-use Rattle.lk_params.specs.Values.{scalar}
 use Rattle.lk_written.specs.Entries.{filter_entries}
-use Rattle.lk_written.specs.FilterFindings.{filters_findings}
 use Rattle.lk_written.specs.ReadFilters.{AreFilters}
 use Rattle.lk_written.specs.ValueFindings.{wrong}
-use Rattle.lk_written.specs.Values.{filters_at, is_missing, is_text, text_at}
-use Rattle.lk_explore.specs.Values.{are_no_words, block_at, is_no_text, within_block, words_at, words_in, wrong_at}
+use Rattle.lk_written.specs.Values.{filters_at, is_missing, text_at}
+use Rattle.lk_explore.specs.PartFindings.{part_findings}
+use Rattle.lk_explore.specs.Values.{block_at, words_at, words_in, wrong_at}
 
 -- ---- what the query names, in the order of the text
 
@@ -37,41 +34,16 @@ entries_in query = along entries_at [] query
 
 -- ---- faults, given the name of the table
 
--- a value outside the profile within a parameter of the table
-abbrev pub wrong_in : List ℕ → List ℕ → List ℕ → Bool → List Finding
-wrong_in table at parameter so = wrong order.Object table at parameter so
-
--- lists that are none, filters that are none, and another time zone
-abbrev pub query_item_findings : List ℕ → Item → List Finding
-query_item_findings table item =
-    if is_same_text item.name (codes "filters") then filters_findings order.Object table (codes "query") (item ∷ [])
-    else if is_same_text item.name (codes "dimensions") then wrong_in table (codes "query") (codes "dimensions") (are_no_words item.value)
-    else if is_same_text item.name (codes "measures") then wrong_in table (codes "query") (codes "measures") (are_no_words item.value)
-    else wrong_in table (codes "query") (codes "timezone")
-    (is_same_text item.name (codes "timezone") && not (is_text (codes "UTC") (scalar item.value)))
-
-abbrev pub trigger_findings : List ℕ → Item → List Finding
-trigger_findings table item =
-    if is_same_text item.name (codes "datagroup_trigger")
-    then wrong_in table (codes "materialization") (codes "datagroup_trigger") (is_no_text item.value)
-    else []
-
--- what the value of a parameter shows within the query or the materialization
-abbrev pub part_findings : Owner → List ℕ → Item → List Finding
-part_findings owner.Query table item = query_item_findings table item
-part_findings o table item = trigger_findings table item
-
 -- a query that is no block without a name, or what stands wrong in it
 abbrev pub query_findings : List ℕ → Node → List Finding
-query_findings table (node.Block None inner) =
-    within_block owner.Query table (codes "query") (part_findings owner.Query table) (items_of inner)
+query_findings table (node.Block None inner) = part_findings owner.Query table (codes "query") (items_of inner)
 query_findings table value = wrong_at table (codes "query") true
 
 -- a materialization that is no block without a name, or what stands wrong in it, and then a missing `datagroup_trigger`
 abbrev pub materialization_findings : List ℕ → Node → List Finding
 materialization_findings table (node.Block None inner) =
-    within_block owner.Materialization table (codes "materialization") (part_findings owner.Materialization table) (items_of inner)
-    ++ wrong_in table (codes "materialization") (codes "datagroup_trigger") (is_missing (codes "datagroup_trigger") (items_of inner))
+    part_findings owner.Materialization table (codes "materialization") (items_of inner)
+    ++ wrong order.Object table (codes "materialization") (codes "datagroup_trigger") (is_missing (codes "datagroup_trigger") (items_of inner))
 materialization_findings table value = wrong_at table (codes "materialization") true
 
 abbrev pub value_findings : List ℕ → Item → List Finding
@@ -80,11 +52,15 @@ value_findings table item =
     else if is_same_text item.name (codes "materialization") then materialization_findings table item.value
     else []
 
+-- at each parameter what it shows by itself, and then what its value shows, so that repeated ones are tested in their order
+abbrev pub item_by_item : List ℕ → List Item → List Item → List Finding
+item_by_item table before items =
+    along (λ before item. item_findings order.Object owner.AggregateTable table None before item ++ value_findings table item) before items
+
 -- all that an aggregate table's own parameters show
 abbrev pub rollup_findings : List ℕ → List Item → List Finding
 rollup_findings table items =
-    block_findings order.Object owner.AggregateTable table None items
-    ++ flat_map (value_findings table) items
+    item_by_item table [] items
     ++ wrong_at table (codes "query") (is_missing (codes "query") items)
     ++ wrong_at table (codes "materialization") (is_missing (codes "materialization") items)
 

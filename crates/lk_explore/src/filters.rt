@@ -1,10 +1,11 @@
 ghost use Rattle.std.specs.Prelude.{◌≡◌, IfOk, false, true};
-ghost use Rattle.std.specs.List.{filter};
+ghost use Rattle.std.specs.List.{filter, fold};
 ghost use Rattle.lk_params.specs.Findings.{soonest, sooner};
 ghost use Rattle.lk_params.specs.Values as values;
 ghost use Rattle.lk_written.specs.Codes.{IsCode};
-ghost use Rattle.lk_explore.specs.ExploreFilters.{AreExploreFilters, IsAlways, IsExploreFilter, access_findings, access_of, always_findings, is_filter, lacks_text, where_findings};
+ghost use Rattle.lk_explore.specs.ExploreFilters.{AreExploreFilters, IsAlways, IsExploreFilter, access_findings, access_of, always_findings, is_filter, missing_in, where_findings};
 
+use crate::part_findings::find_in_part;
 use crate::values::{add_wrong_at, plain_items};
 use lk_objects::{AccessFilter, AlwaysFilter, Code, ExploreFilter};
 use lk_params::{
@@ -12,7 +13,9 @@ use lk_params::{
 };
 use lk_read::{Item, Node};
 use lk_val::{Items, NoMemory};
-use lk_written::{copied_text, find_in_code, find_in_filters, read_code, read_filters, text_at};
+use lk_written::{
+    add_wrong_within, copied_text, find_in_code, is_missing, read_code, read_filters, text_at,
+};
 use std::alloc::Global;
 
 // The filters of an explore in the order of the text, each with its first fault.
@@ -73,20 +76,11 @@ fn first_of_always(alloc: Global, explore: &str, value: &Node) -> Result<Option<
         return Ok(findings.first);
     };
     let items = parameters_of(inner);
-    find_unknown(
+    find_in_part(
         alloc,
-        Order::Object,
         Owner::AlwaysFilter,
         explore,
-        None,
-        items,
-        &mut findings,
-    )?;
-    find_in_filters(
-        alloc,
-        Order::Object,
-        explore,
-        "filters",
+        "always_filter",
         items,
         &mut findings,
     )?;
@@ -113,33 +107,38 @@ fn first_of_access(alloc: Global, explore: &str, value: &Node) -> Result<Option<
         return Ok(findings.first);
     };
     let items = parameters_of(inner);
-    find_unknown(
+    find_in_part(
         alloc,
-        Order::Object,
         Owner::AccessFilter,
         explore,
-        None,
+        "access_filter",
         items,
         &mut findings,
     )?;
-    let lacks_field = lacks_text("field", items);
-    add_wrong_at(alloc, explore, "field", lacks_field, &mut findings)?;
-    let lacks_attribute = lacks_text("user_attribute", items);
-    add_wrong_at(
-        alloc,
-        explore,
-        "user_attribute",
-        lacks_attribute,
-        &mut findings,
-    )?;
+    find_missing(alloc, explore, "field", items, &mut findings)?;
+    find_missing(alloc, explore, "user_attribute", items, &mut findings)?;
     Ok(findings.first)
 }
 
-// Whether a parameter is missing, or its value is no word or string.
-fn lacks_text(name: &str, items: &[Item]) -> bool
-    ensures { result ≡ lacks_text name.now items.now }
+fn find_missing(
+    alloc: Global,
+    explore: &str,
+    name: &str,
+    items: &[Item],
+    findings: &mut Findings,
+) -> Result<(), NoMemory>
+    ensures { IfOk result (λ _. findings.new.first
+        ≡ fold sooner findings.old.first (missing_in explore.now name.now items.now)) }
 {
-    text_at(name, items).is_none()
+    add_wrong_within(
+        alloc,
+        Order::Object,
+        explore,
+        "access_filter",
+        name,
+        is_missing(name, items),
+        findings,
+    )
 }
 
 // The code of a `sql_always_where`, as it is read.

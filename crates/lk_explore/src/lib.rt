@@ -7,6 +7,7 @@ mod filters;
 mod interval;
 mod join;
 mod join_findings;
+mod part_findings;
 mod rollup;
 mod rollup_findings;
 mod trigger;

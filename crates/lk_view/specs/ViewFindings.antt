@@ -1,6 +1,5 @@
 -- The faults of a view that its own parameters show, those of its fields aside. (lookd)
 use Rattle.std.specs.Prelude.{ℕ, Bool, true, false, not, ◌||◌, ◌&&◌, if◌then◌else◌, List, [], ◌∷◌, ◌++◌, Option, Some, None, is_some, codes}
-use Rattle.std.specs.List.{flat_map}
 use Rattle.std.specs.Option.{option_and_then}
 use Rattle.lk_val.specs.Texts.{is_same_text}
 use Rattle.lk_read.specs.declared.tree.Item.{Item}
@@ -13,7 +12,7 @@ use Rattle.lk_params.specs.declared.number.Order.TheVariants as order
 use Rattle.lk_params.specs.declared.number.Number.TheVariants.{N4}
 use Rattle.lk_params.specs.declared.finding.Finding.{Finding}
 use Rattle.lk_params.specs.Findings.{finding, named_line}
-use Rattle.lk_params.specs.Known.{along, block_findings, item_findings}
+use Rattle.lk_params.specs.Known.{along, item_findings}
 use Rattle.lk_params.specs.Parameters.{items_of, last_named}
 use Rattle.lk_params.specs.Values.{code, scalar, words}
 use Rattle.lk_written.specs.Values.{is_missing, is_no_truth, is_text}
@@ -112,9 +111,11 @@ value_findings view item =
     if is_same_text item.name derived_at then derived_findings view item.value
     else wrong order.Object view item.name item.name (is_wrong_value item)
 
+-- at each parameter what it shows by itself, and then what its value shows, so that repeated ones are tested in their order
+abbrev pub item_by_item : List ℕ → List Item → List Item → List Finding
+item_by_item view before items =
+    along (λ before item. item_findings order.Object owner.View view None before item ++ value_findings view item) before items
+
 -- all that a view's own parameters show
 abbrev pub view_findings : Schema → List ℕ → List Item → List Finding
-view_findings schema view items =
-    block_findings order.Object owner.View view None items
-    ++ flat_map (value_findings view) items
-    ++ table_findings schema view items
+view_findings schema view items = item_by_item view [] items ++ table_findings schema view items

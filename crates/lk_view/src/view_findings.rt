@@ -1,15 +1,15 @@
-ghost use Rattle.std.specs.Prelude.{◌≡◌, IfOk, is_some, option_map};
+ghost use Rattle.std.specs.Prelude.{◌≡◌, [], IfOk, is_some, option_map};
 ghost use Rattle.std.specs.Option.{option_and_then};
-ghost use Rattle.std.specs.List.{fold, flat_map};
+ghost use Rattle.std.specs.List.{fold};
 ghost use Rattle.lk_params.specs.Findings.{sooner, soonest};
 ghost use Rattle.lk_params.specs.Values.{code};
 ghost use Rattle.lk_view.specs.Tables.{table_named};
-ghost use Rattle.lk_view.specs.ViewFindings.{is_field_kind, is_wrong_value, table_findings, table_text, value_findings, view_findings};
+ghost use Rattle.lk_view.specs.ViewFindings.{is_field_kind, is_wrong_value, item_by_item, table_findings, table_text, value_findings, view_findings};
 
 use crate::derived_findings::find_in_derived;
 use crate::table::table_named;
 use lk_params::{
-    Finding, Findings, Number, Order, Owner, code, find_unknown, last_named, scalar, words,
+    Finding, Findings, Number, Order, Owner, code, find_in_item, last_named, scalar, words,
 };
 use lk_read::{Item, Node};
 use lk_types::Schema;
@@ -29,31 +29,33 @@ pub fn first_of_view(
     ensures { IfOk result (λ first. first ≡ soonest (view_findings schema.now view.now items.now)) }
 {
     let mut findings = Findings::new();
-    find_unknown(
-        alloc,
-        Order::Object,
-        Owner::View,
-        view,
-        None,
-        items,
-        &mut findings,
-    )?;
-    find_in_values(alloc, view, items, &mut findings)?;
+    find_in_items(alloc, view, items, &mut findings)?;
     find_table(alloc, schema, view, items, &mut findings)?;
     Ok(findings.first)
 }
 
-fn find_in_values(
+// At each parameter what it shows by itself, and then what its value shows.
+fn find_in_items(
     alloc: Global,
     view: &str,
     items: &[Item],
     findings: &mut Findings,
 ) -> Result<(), NoMemory>
     ensures { IfOk result (λ _. findings.new.first
-        ≡ fold sooner findings.old.first (flat_map (value_findings view.now) items.now)) }
+        ≡ fold sooner findings.old.first (item_by_item view.now [] items.now)) }
 {
-    for item in items {
-        find_in_value(alloc, view, item, findings)?;
+    for place in 0..items.len() {
+        find_in_item(
+            alloc,
+            Order::Object,
+            Owner::View,
+            view,
+            None,
+            &items[..place],
+            &items[place],
+            findings,
+        )?;
+        find_in_value(alloc, view, &items[place], findings)?;
     }
     Ok(())
 }
