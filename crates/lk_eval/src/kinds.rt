@@ -75,8 +75,8 @@ fn operand(kinds: &[KindSet], place: usize) -> KindSet
     }
 }
 
-// The kinds that a node may have, given those of its operands.
-fn kinds_made(node: &Node, kinds: &[KindSet], leaf: &Leaves) -> KindSet
+/// The kinds that a node may have, given those of its operands; of a column, the kind among the given ones. (lookd)
+pub fn kinds_made(node: &Node, kinds: &[KindSet], leaf: &Leaves) -> KindSet
     ensures { result ≡ kinds_made leaf.now node.now kinds.now }
 {
     let (a, b) = (operand(kinds, 0), operand(kinds, 1));
@@ -198,8 +198,8 @@ fn kinds_of_column(kind: Option<Kind>) -> KindSet
     }
 }
 
-// The kinds of a timeframe of an expression of these kinds.
-fn kinds_framed(frame: Frame, kinds: KindSet) -> KindSet
+/// The kinds of a timeframe of an expression of these kinds: none where it is neither a day nor a moment. (lookd)
+pub fn kinds_framed(frame: Frame, kinds: KindSet) -> KindSet
     ensures { result ≡ kinds_framed frame kinds }
 {
     let timed = kinds.has_time();

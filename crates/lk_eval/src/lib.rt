@@ -19,6 +19,6 @@ mod truth;
 pub use cells::HasCells;
 pub use dated::{are_literals_dated, is_row_dated};
 pub use evaluation::{eval, eval_over};
-pub use kinds::{Clash, kind_of};
+pub use kinds::{Clash, kind_of, kinds_framed, kinds_made};
 pub use laws::values_have_their_kinds;
 pub use like::{each_pattern_has_a_text, read_pattern};

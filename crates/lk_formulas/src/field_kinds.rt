@@ -64,7 +64,7 @@ impl FieldTable {
 
     /// Whether kinds clash at a field: its expression has not the kind that its type needs, a measure of type number takes
     /// one that is no number, or kinds clash in its `sql_distinct_key`. A field that reaches a cycle clashes by its key
-    /// alone. (Looker, LookML reference: type, sql_distinct_key; lookd)
+    /// alone, and a measure of type number also by a measure that it takes. (Looker, LookML reference: type, sql_distinct_key; lookd)
     pub fn field_clashes(
         &self,
         alloc: Global,

@@ -1,12 +1,13 @@
 ghost use Rattle.std.specs.Prelude.{◌≡◌, ◌++◌, IfOk, map, option_map, Some, None, slice_index_or};
 ghost use Rattle.std.specs.List.{list_all};
-ghost use Rattle.lk_types.specs.Kinds.{kinds_framed, kinds_of_column};
+ghost use Rattle.lk_types.specs.Kinds.{kinds_of_column};
 ghost use Rattle.lk_formulas.specs.Formulas.{column_formula, framed, null};
 ghost use Rattle.lk_formulas.specs.Referents.{code_numbered, column_kinds, field_numbered, formula_framed, formula_of_referent, formula_through, is_certain_referent, is_certain_through, kinds_in_frame, kinds_of_referent, kinds_through, number_size_of, size_framed, size_of, size_through};
 
 use crate::columns::{ColumnKinds, UnknownColumn, known_kind};
 use crate::referent::Referent;
 use crate::resolved::{ResolvedCode, ResolvedField};
+use lk_eval::kinds_framed;
 use lk_types::{Expr, Frame, Kind, KindSet, Node};
 use lk_val::{Items, NoMemory, Value};
 use std::alloc::Global;
@@ -283,27 +284,5 @@ fn number_size_of(fields: &[Option<ResolvedField>], referent: Referent) -> usize
             Some(field) => field.number_size,
         },
         Referent::Nothing | Referent::Column(_, _) => 1,
-    }
-}
-
-// The kinds of a timeframe of an expression of these kinds.
-pub(crate) fn kinds_framed(frame: Frame, kinds: KindSet) -> KindSet
-    ensures { result ≡ kinds_framed frame kinds }
-{
-    let timed = kinds.has_time();
-    match frame {
-        Frame::Raw => KindSet {
-            day: kinds.day,
-            moment: kinds.moment,
-            ..KindSet::none()
-        },
-        Frame::Time => KindSet::only(Kind::Moment).kept_if(timed),
-        Frame::HourOfDay | Frame::DayOfMonth | Frame::MonthNum => {
-            KindSet::only(Kind::Number).kept_if(timed)
-        }
-        Frame::DayOfWeek => KindSet::only(Kind::Text).kept_if(timed),
-        Frame::Date | Frame::Week | Frame::Month | Frame::Quarter | Frame::Year => {
-            KindSet::only(Kind::Day).kept_if(timed)
-        }
     }
 }

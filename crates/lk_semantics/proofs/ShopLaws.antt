@@ -22,7 +22,7 @@ shop_groups = (plain_alone [] 0 kind.Text 0, (plain_alone [] 0 kind.Text 0, (pla
 
 shop_explore : IsResolvedExplore shop_model orders_explore
 unfolding do_compare
-shop_explore = record { parts = refl; whole = refl; typed = refl; filters = refl; groups = shop_groups; keys = refl; grounded = refl; stored = refl; fixed = refl; one_datagroup = refl }
+shop_explore = record { few_joins = refl; parts = refl; whole = refl; typed = refl; filters = refl; groups = shop_groups; keys = refl; grounded = refl; stored = refl; fixed = refl; one_datagroup = refl }
 
 pub shop_resolved : IsResolved shop_model
 shop_resolved = record { numbered = refl; explores = (shop_explore, tt); derived = tt; acyclic = refl }

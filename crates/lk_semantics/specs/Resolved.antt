@@ -397,6 +397,7 @@ are_one (g ∷ gs) = list_all (nat_eq g) gs
 
 -- an explore of a resolved model
 pub record IsResolvedExplore (m : Model) (x : Explore) : Type 0 where
+  pub few_joins : nat_le (length x.joins) 31 ≡ true
   pub parts : has_part_for_each_join x ≡ true
   pub whole : has_whole_forms x ≡ true
   pub typed : is_typed_explore m x ≡ true

@@ -64,7 +64,10 @@ impl Ord for Pair {
     ghost matches_eq = { λ x y. refl };
 
     fn cmp(&self, other: &Pair) -> Ordering {
-        cmp_value(&self.key, &other.key).then(cmp_value(&self.value, &other.value))
+        match cmp_value(&self.key, &other.key) {
+            Ordering::Equal => cmp_value(&self.value, &other.value),
+            order => order,
+        }
     }
 }
 
