@@ -173,7 +173,7 @@ module _ (views : List DeclaredView) (scope : Scope) where
         least_set-kept equality (all_places views scope) rule grows t there_t
         (h t (ap (λ ts. is_in is_same_place t ts) (target_places y.part (field_at views scope y)) ∙ inside)))
 
-    closed : (s : ℕ) → slice_get (all_places views scope) s ≡ Some start → IsClosed rows s test
+    closed : (s : ℕ) → slice_get (all_places views scope) s ≡ Some start → IsClosed rows (names_at rows s) test
     closed s at = record {
       first = ap (list_all test) (names_of_place s start at)
           ∙ held_from start (λ t inside. ap (λ b. b || list_any (λ from. is_in is_same_place t (targets views scope from)) set) inside);
@@ -190,7 +190,7 @@ module _ (views : List DeclaredView) (scope : Scope) where
 
     -- ---- all that is reached is marked
 
-    module _ (s : ℕ) (marks : List Bool) (number : number_of (all_places views scope) start ≡ Some s) (r : IsReached rows s marks) where
+    module _ (s : ℕ) (marks : List Bool) (number : number_of (all_places views scope) start ≡ Some s) (r : IsReached rows (names_at rows s) marks) where
       abbrev passes : Place → Bool
       passes x = list_any (is_marked marks) (option_list (number_of (all_places views scope) x))
 

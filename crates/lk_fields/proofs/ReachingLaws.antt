@@ -209,25 +209,25 @@ taken_by marks now ns same visited n there lt = visited n there (omega (arith, s
 taken_more : (marks now : List Bool) (ns : List ℕ) → length now ≡ length marks → ((m : ℕ) → is_marked marks m ≡ true → is_marked now m ≡ true) → AreTaken marks ns → AreTaken now ns
 taken_more marks now ns same more taken n there lt = more n (taken n there (omega (arith, same)))
 
-pub search_begins : (rows : List Row) (start : ℕ) (marks : List Bool) (found : List ℕ) (now : List Bool) (later : List ℕ)
-    → marks ≡ no_marks rows → found ≡ [] → IsVisit (names_at rows start) marks found now later → IsSearched rows start 0 now later
-search_begins rows start marks found now later empty none v = record {
+pub search_begins : (rows : List Row) (begun : List ℕ) (marks : List Bool) (found : List ℕ) (now : List Bool) (later : List ℕ)
+    → marks ≡ no_marks rows → found ≡ [] → IsVisit begun marks found now later → IsSearched rows begun 0 now later
+search_begins rows begun marks found now later empty none v = record {
   many = v.many ∙ ap length empty ∙ none_length rows;
   fit = v.fit (subst (λ f. IsFit marks f) (sym none) (subst (λ m. IsFit m []) (sym empty) (none_fit rows)));
-  started = taken_by marks now (names_at rows start) v.many v.visited;
+  started = taken_by marks now begun v.many v.visited;
   passed = λ m h. absurd (false≢true h);
   least = λ p closed m marked. v.least p closed.first (λ m h. absurd (false≢true (sym (ap (λ ms. is_marked ms m) empty ∙ unmarked rows m) ∙ h))) m marked;
 }
 
-pub search_goes_on : (rows : List Row) (start next : ℕ) (marks : List Bool) (found : List ℕ) (now : List Bool) (later : List ℕ)
-    → IsSearched rows start next marks found → IsVisit (names_found rows found next) marks found now later → IsSearched rows start (next + 1) now later
-search_goes_on rows start next marks found now later s v =
+pub search_goes_on : (rows : List Row) (begun : List ℕ) (next : ℕ) (marks : List Bool) (found : List ℕ) (now : List Bool) (later : List ℕ)
+    → IsSearched rows begun next marks found → IsVisit (names_found rows found next) marks found now later → IsSearched rows begun (next + 1) now later
+search_goes_on rows begun next marks found now later s v =
     let one : suc next ≡ next + 1 = omega arith in
-    subst (λ n. IsSearched rows start n now later) one
+    subst (λ n. IsSearched rows begun n now later) one
     (record {
       many = v.many ∙ s.many;
       fit = v.fit s.fit;
-      started = taken_more marks now (names_at rows start) v.many v.more s.started;
+      started = taken_more marks now begun v.many v.more s.started;
       passed = λ m there.
           ⊎_elim (λ e. taken_more marks now (names_at rows m) v.many v.more (s.passed m e))
           (λ e. taken_by marks now (names_at rows m) v.many (subst (λ ns. (n : ℕ) → is_in nat_eq n ns ≡ true → n < length marks → is_marked now n ≡ true) (ap (λ o. names_with (option_and_then (slice_get rows) o)) e) v.visited))
@@ -239,14 +239,14 @@ search_goes_on rows start next marks found now later s v =
     front None e = ap (take (suc next)) (v.none (ap (λ o. names_with (option_and_then (slice_get rows) o)) e))
     front (Some x) e = let lt = got_within found next x e in v.stays (suc next) (omega (arith, lt))
 
-    all_of : (p : ℕ → Bool) → IsClosed rows start p → (o : Option ℕ) → slice_get found next ≡ o → list_all p (names_found rows found next) ≡ true
+    all_of : (p : ℕ → Bool) → IsClosed rows begun p → (o : Option ℕ) → slice_get found next ≡ o → list_all p (names_found rows found next) ≡ true
     all_of p closed None e = ap (λ o. list_all p (names_with (option_and_then (slice_get rows) o))) e
     all_of p closed (Some x) e =
         ap (λ o. list_all p (names_with (option_and_then (slice_get rows) o))) e
         ∙ closed.next x (s.least p closed x (s.fit.marked x (got_in found next x e)))
 
-pub search_ends : (rows : List Row) (start next : ℕ) (marks : List Bool) (found : List ℕ) → length rows ≤ next → IsSearched rows start next marks found → IsReached rows start marks
-search_ends rows start next marks found end s =
+pub search_ends : (rows : List Row) (begun : List ℕ) (next : ℕ) (marks : List Bool) (found : List ℕ) → length rows ≤ next → IsSearched rows begun next marks found → IsReached rows begun marks
+search_ends rows begun next marks found end s =
     let fit = s.fit.count in
     let many = s.many in
     let few : length found ≤ next = omega (arith, count_by-le-length (λ (b : Bool). b) marks, fit, many, end) in

@@ -40,22 +40,22 @@ pub record IsVisit (ns : List ℕ) (marks : List Bool) (found : List ℕ) (now :
   pub least : (p : ℕ → Bool) → list_all p ns ≡ true → ((m : ℕ) → is_marked marks m ≡ true → p m ≡ true) → (m : ℕ) → is_marked now m ≡ true → p m ≡ true
   pub none : ns ≡ [] → later ≡ found
 
--- a test passes all that the start refers to, and all that what it passes refers to
-pub record IsClosed (rows : List Row) (start : ℕ) (p : ℕ → Bool) : Type 0 where
-  pub first : list_all p (names_at rows start) ≡ true
+-- a test passes the numbers that a search begins with, and all that what it passes refers to
+pub record IsClosed (rows : List Row) (begun : List ℕ) (p : ℕ → Bool) : Type 0 where
+  pub first : list_all p begun ≡ true
   pub next : (m : ℕ) → p m ≡ true → list_all p (names_at rows m) ≡ true
 
 -- the fields before a place of the list are searched
-pub record IsSearched (rows : List Row) (start next : ℕ) (marks : List Bool) (found : List ℕ) : Type 0 where
+pub record IsSearched (rows : List Row) (begun : List ℕ) (next : ℕ) (marks : List Bool) (found : List ℕ) : Type 0 where
   pub many : length marks ≡ length rows
   pub fit : IsFit marks found
-  pub started : AreTaken marks (names_at rows start)
+  pub started : AreTaken marks begun
   pub passed : (m : ℕ) → is_in nat_eq m (take next found) ≡ true → AreTaken marks (names_at rows m)
-  pub least : (p : ℕ → Bool) → IsClosed rows start p → (m : ℕ) → is_marked marks m ≡ true → p m ≡ true
+  pub least : (p : ℕ → Bool) → IsClosed rows begun p → (m : ℕ) → is_marked marks m ≡ true → p m ≡ true
 
--- the marked fields are those that the start reaches
-pub record IsReached (rows : List Row) (start : ℕ) (marks : List Bool) : Type 0 where
+-- the marked numbers are those that a search begins with, and all that they refer to, and so on
+pub record IsReached (rows : List Row) (begun : List ℕ) (marks : List Bool) : Type 0 where
   pub many : length marks ≡ length rows
-  pub started : AreTaken marks (names_at rows start)
+  pub started : AreTaken marks begun
   pub closed : (m : ℕ) → is_marked marks m ≡ true → AreTaken marks (names_at rows m)
-  pub least : (p : ℕ → Bool) → IsClosed rows start p → (m : ℕ) → is_marked marks m ≡ true → p m ≡ true
+  pub least : (p : ℕ → Bool) → IsClosed rows begun p → (m : ℕ) → is_marked marks m ≡ true → p m ≡ true

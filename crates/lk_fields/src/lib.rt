@@ -21,6 +21,7 @@ pub use made::{frame_made, has_sort};
 pub use names::{found_by, found_in, part_meant, split_name, view_at};
 pub use nodes::{nodes_in, nodes_with};
 pub use places::all_places;
+pub use reaching::reached;
 pub use references::{field_at, fields_at, named_by, referred};
 pub use rows::{Row, Rule, number_of, rows_of};
 pub use scope::{Found, Place, Scope, ScopePart, Sort, Writer};

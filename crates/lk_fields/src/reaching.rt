@@ -7,42 +7,37 @@ use crate::rows::Row;
 use lk_val::{Items, NoMemory};
 use std::alloc::Global;
 
-// Whether a field refers to itself through any number of references. Each field is visited once.
-pub(crate) fn reaches_itself(alloc: Global, rows: &[Row], start: usize) -> Result<bool, NoMemory>
-    ensures { IfOk result (λ reaches. (marks : List Bool) × IsReached rows.now start marks × (reaches ≡ is_marked marks start)) }
+/// A mark for each number that a search reaches: those that it begins with, what they refer to, and so on. Each number is
+/// visited once, and a number past the rows is none. (lookd)
+pub fn reached(alloc: Global, rows: &[Row], begun: &[usize]) -> Result<Items<bool>, NoMemory>
+    ensures { IfOk result (IsReached rows.now begun.now) }
 {
-    let marks = no_marks(alloc, rows)?;
-    let mut marks = marks.into_vec();
+    let mut marks = no_marks(alloc, rows)?.into_vec();
     let mut found = Items::new(alloc);
-    search_told(rows, start, marks.as_mut_slice(), &mut found)
+    search(rows, begun, marks.as_mut_slice(), &mut found)?;
+    Ok(Items::from_vec(marks))
 }
 
-fn search_told(
-    rows: &[Row],
-    start: usize,
-    marks: &mut [bool],
-    found: &mut Items<usize>,
-) -> Result<bool, NoMemory>
-    requires marks { marks.old ≡ no_marks rows.now }
-    requires found { found.old ≡ [] }
-    ensures { IfOk result (λ reaches. (now : List Bool) × IsReached rows.now start now × (reaches ≡ is_marked now start)) }
+// Whether a field refers to itself through any number of references.
+pub(crate) fn reaches_itself(alloc: Global, rows: &[Row], start: usize) -> Result<bool, NoMemory>
+    ensures { IfOk result (λ reaches. (marks : List Bool) × IsReached rows.now (names_at rows.now start) marks × (reaches ≡ is_marked marks start)) }
 {
-    search(rows, start, marks, found)?;
-    Ok(is_marked(marks, start))
+    let marks = reached(alloc, rows, names_at(rows, start))?;
+    Ok(is_marked(marks.as_slice(), start))
 }
 
-// Marks what the start reaches: first what it refers to, and then what each field that was found refers to.
+// Marks what is reached: first the numbers that it begins with, and then what each number that was found refers to.
 fn search(
     rows: &[Row],
-    start: usize,
+    begun: &[usize],
     marks: &mut [bool],
     found: &mut Items<usize>,
 ) -> Result<(), NoMemory>
     requires marks { marks.old ≡ no_marks rows.now }
     requires found { found.old ≡ [] }
-    ensures { IfOk result (λ _. IsReached rows.now start marks.new) }
+    ensures { IfOk result (λ _. IsReached rows.now begun.now marks.new) }
 {
-    visit_all(names_at(rows, start), marks, found)?;
+    visit_all(begun, marks, found)?;
     for next in 0..rows.len() {
         visit_next(rows, next, marks, found)?;
     }

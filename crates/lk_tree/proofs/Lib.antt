@@ -2,3 +2,5 @@ pub mod ComponentLaws
 pub mod AskingLaws
 pub mod RoundLaws
 pub mod PartSetLaws
+pub mod RoleLaws
+pub mod StandingLaws

@@ -198,7 +198,7 @@ fn grown(
     Ok(more)
 }
 
-fn add_if(joins: &mut Items<u32>, condition: bool, j: u32) -> Result<(), NoMemory>
+pub(crate) fn add_if(joins: &mut Items<u32>, condition: bool, j: u32) -> Result<(), NoMemory>
     ensures { OnOk result (joins.new ≡ joins.old ++ (if condition then j ∷ [] else [])) }
 {
     if condition {
