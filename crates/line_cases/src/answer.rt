@@ -1,0 +1,43 @@
+use case_lines::CaseFault;
+use lk_types::{Answer, Shape, print_cell};
+use lk_val::{Bytes, Cell, NoMemory, Text, Value};
+use std::alloc::Global;
+
+/// The lines of an answer, as `EU 50, US 61/2 (all)`, or `(cut)` where there are more.
+pub fn show_answer(alloc: Global, answer: Answer) -> Result<Text, CaseFault> {
+    let Answer::Table(lines, complete) = answer else {
+        return Err(CaseFault::NoSuchCase);
+    };
+    let mut shown = Bytes::new(alloc);
+    for line in lines.as_slice() {
+        if !shown.is_empty() {
+            shown.append(b", ")?;
+        }
+        add_cells(alloc, line.as_slice(), &mut shown)?;
+    }
+    if shown.is_empty() {
+        shown.append(b"nothing")?;
+    }
+    shown.append(if complete { b" (all)" } else { b" (cut)" })?;
+    Text::from_utf8(alloc, shown.as_slice())?.ok_or(CaseFault::NoSuchCase)
+}
+
+fn add_cells(alloc: Global, cells: &[Cell], shown: &mut Bytes) -> Result<(), CaseFault> {
+    let mut between = false;
+    for cell in cells {
+        if between {
+            shown.append(b" ")?;
+        }
+        shown.append(show_cell(alloc, cell)?.as_bytes())?;
+        between = true;
+    }
+    Ok(())
+}
+
+// The printed form of a cell, `null` for null.
+fn show_cell(alloc: Global, cell: &Cell) -> Result<Text, NoMemory> {
+    match cell {
+        Cell::Value(Value::Null) => Text::from_str(alloc, "null"),
+        _ => print_cell(alloc, cell, &Shape::Plain),
+    }
+}

@@ -1,0 +1,5 @@
+pub mod ValueLaws
+pub mod NestingLaws
+pub mod SetLaws
+pub mod OrderLaws
+pub mod SourceLaws

@@ -1,0 +1,4 @@
+pub mod Values
+pub mod Nesting
+pub mod Sources
+pub mod Lines
