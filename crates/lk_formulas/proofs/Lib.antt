@@ -1,7 +1,6 @@
 pub mod FillLaws
-pub mod KindLaws
 pub mod LargeLaws
-pub mod NodeKindLaws
+pub mod LiteralLaws
 pub mod NumberLaws
 pub mod RoundLaws
 pub mod ToldLaws

@@ -21,11 +21,10 @@ use Rattle.lk_fields.specs.declared.scope.Sort.TheVariants as sort
 use Rattle.lk_fields.specs.declared.scope.Writer.TheVariants as writer
 use Rattle.lk_fields.specs.Existing.{all_places, ends_after, field_at, is_same_place, meant, meant_in, places_of, targets, targets_with}
 use Rattle.lk_fields.specs.Scopes.{found_in}
-use Rattle.lk_fields.specs.Substituted.{replacement, substituted}
 use Rattle.lk_fields.proofs.LostLaws.{both, passing, same_exact, same_itself}
 use Rattle.lk_formulas.specs.declared.columns.ColumnKinds.{ColumnKinds}
 use Rattle.lk_formulas.specs.declared.columns.UnknownColumn.{UnknownColumn}
-use Rattle.lk_formulas.specs.Formulas.{certain_within, ends, expanded, expanded_field, field_named, formula_of, formula_within, framed, is_certain, knows, knows_all, knows_field, knows_through, meaning, null, through}
+use Rattle.lk_formulas.specs.Formulas.{as_read, as_written, certain_within, dated_of, ends, expanded, expanded_field, field_named, formula_by, formula_of, formula_within, framed, is_certain, knows, knows_all, knows_field, knows_through, meaning, null, through}
 use Rattle.lk_formulas.specs.NumberSizes.{nodes_at, nodes_by, nodes_meant, nodes_of_code, nodes_of_field, nodes_through, number_nodes, number_nodes_within, told}
 use Rattle.lk_formulas.specs.Resolved.{field_kept, resolved}
 
@@ -107,7 +106,7 @@ module _ (views : List DeclaredView) (scope : Scope) where
   -- ---- formulas
 
   module _ (schema : Schema) (columns : ColumnKinds) (u : UnknownColumn) where
-    module _ (f g : Place → Formula) where
+    module _ (join : List Formula → Formula → Formula) (f g : Place → Formula) where
       same_through : (o : Option Found) → ((fd : Found) → o ≡ Some fd → f fd.place ≡ g fd.place) → through schema views scope columns u f o ≡ through schema views scope columns u g o
       same_through None agree = refl
       same_through (Some fd) agree = ap (λ e. if ends views scope fd.place then framed fd.frame e else null) (agree fd refl)
@@ -119,9 +118,9 @@ module _ (views : List DeclaredView) (scope : Scope) where
       same_meaning part (reference.Of view name) agree = same_through (field_named views scope (writer.Field part) sort.Dimension (reference.Of view name)) agree
 
       same_expanded : (part : ℕ) (c : Code) (more : List (Option Found)) → AgreeOn f g (places_of (meant_in views scope part c ++ more))
-          → expanded schema views scope columns u f (writer.Field part) c ≡ expanded schema views scope columns u g (writer.Field part) c
+          → expanded schema views scope columns u join f (writer.Field part) c ≡ expanded schema views scope columns u join g (writer.Field part) c
       same_expanded part (code.Expr written) more a =
-          ap (λ by. substituted (replacement by) written.expr)
+          ap (λ by. join by written.expr)
           (agree_all sort.Dimension part f g (λ k r. meaning schema views scope columns u k (writer.Field part) r) (same_meaning part) written.references more a)
       same_expanded part code.Absent more a = refl
       same_expanded part code.Liquid more a = refl
@@ -130,17 +129,16 @@ module _ (views : List DeclaredView) (scope : Scope) where
       same_expanded part (code.Call place) more a = refl
 
       same_field : (part : ℕ) (o : Option DeclaredField) → AgreeOn f g (targets_with views scope part o)
-          → expanded_field schema views scope columns u f part o ≡ expanded_field schema views scope columns u g part o
+          → expanded_field schema views scope columns u join f part o ≡ expanded_field schema views scope columns u join g part o
       same_field part None a = refl
       same_field part (Some field) a = same_expanded part field.sql (meant_in views scope part field.key) a
 
-    abbrev formulas : Place → Formula
-    formulas place = formula_of schema views scope columns u place
-
-    pub formula_fixed : (p : Place) → ends views scope p ≡ true → formulas p ≡ expanded_field schema views scope columns u formulas p.part (field_at views scope p)
-    formula_fixed p h =
-        fixed (formula_within schema views scope columns u) (λ f p. expanded_field schema views scope columns u f p.part (field_at views scope p))
-        (λ n p. refl) (λ f g p a. same_field f g p.part (field_at views scope p) a) p h
+    -- as it is written, and with its text literals read
+    pub formula_fixed : (join : List Formula → Formula → Formula) (p : Place) → ends views scope p ≡ true
+        → formula_by schema views scope columns u join p ≡ expanded_field schema views scope columns u join (formula_by schema views scope columns u join) p.part (field_at views scope p)
+    formula_fixed join p h =
+        fixed (formula_within schema views scope columns u join) (λ f p. expanded_field schema views scope columns u join f p.part (field_at views scope p))
+        (λ n p. refl) (λ f g p a. same_field join f g p.part (field_at views scope p) a) p h
 
     -- ---- whether all is known
 
@@ -219,11 +217,13 @@ module _ (views : List DeclaredView) (scope : Scope) where
   pub kept_is : (schema : Schema) (columns : ColumnKinds) (u : UnknownColumn) (p : Place) (o : Option DeclaredField) → ends views scope p ≡ true → field_at views scope p ≡ o
       → field_kept schema views scope columns u p
       ≡ record {
-        code = resolved columns (expanded_field schema views scope columns u (formula_of schema views scope columns u) p.part o) (knows_field schema views scope columns u (is_certain schema views scope columns u) p.part o);
+        code = resolved columns (expanded_field schema views scope columns u as_written (formula_of schema views scope columns u) p.part o)
+            (expanded_field schema views scope columns u (as_read columns) (dated_of schema views scope columns u) p.part o) (knows_field schema views scope columns u (is_certain schema views scope columns u) p.part o);
         number_size = told (nodes_of_field views scope (number_nodes views scope) p.part o);
       }
   kept_is schema columns u p o h e =
-      let formula = formula_fixed schema columns u p h ∙ ap (expanded_field schema views scope columns u (formula_of schema views scope columns u) p.part) e in
+      let formula = formula_fixed schema columns u as_written p h ∙ ap (expanded_field schema views scope columns u as_written (formula_of schema views scope columns u) p.part) e in
+      let read = formula_fixed schema columns u (as_read columns) p h ∙ ap (expanded_field schema views scope columns u (as_read columns) (dated_of schema views scope columns u) p.part) e in
       let known = certain_fixed schema columns u p h ∙ ap (knows_field schema views scope columns u (is_certain schema views scope columns u) p.part) e in
       let number = number_fixed p h ∙ ap (nodes_of_field views scope (number_nodes views scope) p.part) e in
-      λ i. record { code = resolved columns (formula i) (known i); number_size = told (number i) }
+      λ i. record { code = resolved columns (formula i) (read i) (known i); number_size = told (number i) }

@@ -5,7 +5,6 @@ use Rattle.std.specs.List.{list_all}
 use Rattle.std.specs.Option.{option_and_then}
 use Rattle.lk_types.specs.Formula.{Formula}
 use Rattle.lk_types.specs.Kinds.{every_kind, is_empty, kinds_of_column}
-use Rattle.lk_types.specs.declared.kind_set.KindSet.{KindSet}
 use Rattle.lk_types.specs.declared.schema.Frame.{Frame}
 use Rattle.lk_types.specs.declared.schema.Kind.{Kind}
 use Rattle.lk_types.specs.declared.schema.Schema.{Schema}
@@ -25,8 +24,9 @@ use Rattle.lk_fields.specs.declared.scope.Writer.{Writer}
 use Rattle.lk_fields.specs.declared.scope.Writer.TheVariants as writer
 use Rattle.lk_fields.specs.Existing.{all_places, field_at}
 use Rattle.lk_fields.specs.Rows.{number_of}
-use Rattle.lk_fields.specs.Substituted.{nodes_in, replacement, substituted, told_nodes}
-use Rattle.lk_fields.proofs.SubstitutionLaws.{map_at}
+use Rattle.lk_fields.specs.Substituted.{nodes_in, replacement, told_nodes}
+use Rattle.lk_dated.specs.Dated.{stands_at, text_of}
+use Rattle.lk_dated.specs.Sides.{no_literal, readings_of, readings_of_text, side_of}
 use Rattle.lk_formulas.specs.declared.columns.ColumnKinds.{ColumnKinds}
 use Rattle.lk_formulas.specs.declared.columns.UnknownColumn.{UnknownColumn}
 use Rattle.lk_formulas.specs.declared.columns.UnknownColumn.TheVariants as unknown_column
@@ -35,25 +35,16 @@ use Rattle.lk_formulas.specs.declared.resolved.ResolvedCode.{ResolvedCode}
 use Rattle.lk_formulas.specs.declared.resolved.ResolvedField.{ResolvedField}
 use Rattle.lk_formulas.specs.Columns.{column_named, known_kind}
 use Rattle.lk_formulas.specs.FieldKinds.{field_kinds, is_sure, key_clashes}
-use Rattle.lk_formulas.specs.FormulaKinds.{kinds_by, kinds_in}
-use Rattle.lk_formulas.specs.Formulas.{column_at, column_formula, ends, field_named, formula_of, framed, is_certain, is_known, knows, knows_through, meaning, null, part_of, through}
-use Rattle.lk_formulas.specs.KindNodes.{stands_for}
+use Rattle.lk_formulas.specs.FormulaKinds.{kinds_at, kinds_in}
+use Rattle.lk_formulas.specs.Formulas.{as_read, as_written, column_at, column_formula, dated_of, ends, field_named, formula_of, framed, is_certain, is_known, knows, knows_through, meaning, null, part_of, through}
 use Rattle.lk_formulas.specs.NumberSizes.{nodes_meant, nodes_of_code, nodes_of_field, nodes_through, number_nodes, number_nodes_within, told}
-use Rattle.lk_formulas.specs.Referents.{AreTold, column_kinds, column_referent, field_numbered, field_referent, formula_framed, formula_of_referent, formula_through, is_certain_referent, is_certain_through, kinds_of_referent, kinds_through, number_size_of, number_size_through, numbered_referent, referent_of, size_of, size_through}
+use Rattle.lk_formulas.specs.Referents.{AreTold, column_kinds, column_referent, field_numbered, field_referent, formula_framed, formula_of_referent, formula_through, is_certain_referent, is_certain_through, kept_side_of, kept_side_through, number_size_of, number_size_through, numbered_referent, referent_of, side_framed, side_if, side_of_referent, side_through, size_of, size_through}
 use Rattle.lk_formulas.specs.Resolved.{code_told, field_kept, field_told, kept, most_nodes, resolved, resolved_field, resolved_in}
 use Rattle.lk_formulas.specs.Told.{AreAllTold, IsTold, is_sure_kept, kinds_kept}
-use Rattle.lk_formulas.proofs.KindLaws.{put}
 use Rattle.lk_formulas.proofs.LargeLaws.{same}
+use Rattle.lk_formulas.proofs.LiteralLaws.{IsSmall, formula_small}
 
 -- ---- an expression with formulas put in
-
-pub kinds_told : (columns : ColumnKinds) (by : List Formula) (ks : List KindSet) (e : Formula) → ks ≡ map (kinds_in columns) by
-    → kinds_by (stands_for ks) e ≡ kinds_in columns (substituted (replacement by) e)
-kinds_told columns by ks e is =
-    let leaf : ℕ → ℕ → KindSet = λ part column. kinds_of_column (known_kind columns part column) in
-    ap (λ t. kinds_by (stands_for t) e) is
-    ∙ ap (λ (f : ℕ → ℕ → KindSet). kinds_by f e) (λ i part column. map_at (kinds_in columns) by column null i)
-    ∙ sym (put leaf (replacement by) e)
 
 told_test : (k n m : ℕ) → k < m → nat_lt k (min n m) ≡ nat_lt k n
 told_test k n m h = grind arith
@@ -61,16 +52,16 @@ told_test k n m h = grind arith
 at_most : (k n : ℕ) → nat_lt k n ≡ false → n ≤ k
 at_most k n h = grind arith
 
-pub expr_told : (by xs : List Formula) (e : Formula) (size : ℕ) → size ≡ told_nodes (substituted (replacement by) e)
-    → ((i : ℕ) → (replacement by i ≡ replacement xs i) ⊎ (most_nodes < nodes_in (replacement by i)))
-    → (if nat_lt most_nodes size then None else Some (substituted (replacement xs) e)) ≡ kept (substituted (replacement by) e)
-expr_told by xs e size is near =
-    let n = nodes_in (substituted (replacement by) e) in
-    ap (λ m. if nat_lt most_nodes m then None else Some (substituted (replacement xs) e)) is
-    ∙ ap (λ b. if b then None else Some (substituted (replacement xs) e)) (told_test most_nodes n (2 ^ 64 - 1) (omega arith))
-    ∙ elim (nat_lt most_nodes n) as (λ b. nat_lt most_nodes n ≡ b → (if b then None else Some (substituted (replacement xs) e)) ≡ (if b then None else Some (substituted (replacement by) e))) [
+pub expr_told : (columns : ColumnKinds) (by read xs : List Formula) (e : Formula) (size : ℕ) → size ≡ told_nodes (as_written by e)
+    → ((i : ℕ) → (replacement read i ≡ replacement xs i) ⊎ (most_nodes < nodes_in (replacement by i)))
+    → (if nat_lt most_nodes size then None else Some (as_read columns xs e)) ≡ kept (as_written by e) (as_read columns read e)
+expr_told columns by read xs e size is near =
+    let n = nodes_in (as_written by e) in
+    ap (λ m. if nat_lt most_nodes m then None else Some (as_read columns xs e)) is
+    ∙ ap (λ b. if b then None else Some (as_read columns xs e)) (told_test most_nodes n (2 ^ 64 - 1) (omega arith))
+    ∙ elim (nat_lt most_nodes n) as (λ b. nat_lt most_nodes n ≡ b → (if b then None else Some (as_read columns xs e)) ≡ (if b then None else Some (as_read columns read e))) [
       | true ↦ λ h. refl
-      | false ↦ λ h. ap (λ x. Some x) (sym (same (replacement by) (replacement xs) most_nodes near e (at_most most_nodes n h)))
+      | false ↦ λ h. ap (λ x. Some x) (sym (same (kinds_in columns) (replacement by) (stands_at read) (stands_at xs) most_nodes (λ p i. near i) e (at_most most_nodes n h)))
     ] refl
 
 -- ---- a column
@@ -85,15 +76,20 @@ module _ (columns : ColumnKinds) (u : UnknownColumn) (fields : List (Option Reso
   size_column None = refl
   size_column (Some column) = column_size u (known_kind columns part column) column
 
-  column_kind : (v : UnknownColumn) (k : Option Kind) (column : ℕ) → known_kind columns part column ≡ k → column_kinds v k ≡ kinds_in columns (column_formula v k part column)
-  column_kind unknown_column.Null None column is = refl
-  column_kind unknown_column.Null (Some k) column is = ap kinds_of_column (sym is)
-  column_kind unknown_column.Kept None column is = ap kinds_of_column (sym is)
-  column_kind unknown_column.Kept (Some k) column is = ap kinds_of_column (sym is)
+  column_side : (v : UnknownColumn) (k : Option Kind) (column : ℕ) → known_kind columns part column ≡ k → no_literal (column_kinds v k) ≡ side_of (kinds_at columns) (column_formula v k part column)
+  column_side unknown_column.Null None column is = refl
+  column_side unknown_column.Null (Some k) column is = ap (λ o. no_literal (kinds_of_column o)) (sym is)
+  column_side unknown_column.Kept None column is = ap (λ o. no_literal (kinds_of_column o)) (sym is)
+  column_side unknown_column.Kept (Some k) column is = ap (λ o. no_literal (kinds_of_column o)) (sym is)
 
-  pub kinds_column : (c : Option ℕ) → kinds_of_referent columns u fields (column_referent part c) ≡ kinds_in columns (column_at columns u part c)
-  kinds_column None = refl
-  kinds_column (Some column) = column_kind u (known_kind columns part column) column refl
+  pub side_column : (c : Option ℕ) → side_of_referent columns u fields (column_referent part c) ≡ side_of (kinds_at columns) (column_at columns u part c)
+  side_column None = refl
+  side_column (Some column) = column_side u (known_kind columns part column) column refl
+
+  pub kept_side_column : (c : Option ℕ)
+      → kept_side_of columns u fields (column_referent part c) ≡ side_of (kinds_at columns) (formula_of_referent columns u fields (column_referent part c))
+  kept_side_column None = refl
+  kept_side_column (Some column) = column_side u (known_kind columns part column) column refl
 
   pub certain_column : (c : Option ℕ) → is_certain_referent columns fields (column_referent part c) ≡ is_known columns part c
   certain_column None = refl
@@ -117,9 +113,13 @@ module _ (columns : ColumnKinds) (u : UnknownColumn) (fields : List (Option Reso
   size_at None = refl
   size_at (Some n) = refl
 
-  kinds_at : (k : Option ℕ) → kinds_of_referent columns u fields (numbered_referent f k) ≡ kinds_through f (option_map code_of (option_and_then (field_numbered fields) k))
-  kinds_at None = refl
-  kinds_at (Some n) = refl
+  side_at : (k : Option ℕ) → side_of_referent columns u fields (numbered_referent f k) ≡ side_through f (option_map code_of (option_and_then (field_numbered fields) k))
+  side_at None = refl
+  side_at (Some n) = refl
+
+  kept_side_at : (k : Option ℕ) → kept_side_of columns u fields (numbered_referent f k) ≡ kept_side_through f (option_map code_of (option_and_then (field_numbered fields) k))
+  kept_side_at None = refl
+  kept_side_at (Some n) = refl
 
   certain_at : (k : Option ℕ) → is_certain_referent columns fields (numbered_referent f k) ≡ is_certain_through (option_map code_of (option_and_then (field_numbered fields) k))
   certain_at None = refl
@@ -136,9 +136,24 @@ module _ (columns : ColumnKinds) (u : UnknownColumn) (fields : List (Option Reso
 told_more : (n m : ℕ) → min (min n m + 1) m ≡ min (1 + n) m
 told_more n m = grind arith
 
-module _ (columns : ColumnKinds) (form : Formula) (certain : Bool) (number : ℕ) where
+too_small : (n : ℕ) → nat_lt most_nodes n ≡ true → n ≤ 1 → ⊥
+too_small n h small = grind arith
+
+-- what a formula writes, which is no text literal where it is too large
+kept_readings : (form read : Formula) → IsSmall form read → option_and_then readings_of (kept form read) ≡ readings_of read
+kept_readings form read small =
+    elim (nat_lt most_nodes (nodes_in form)) as (λ b. nat_lt most_nodes (nodes_in form) ≡ b → option_and_then readings_of (if b then None else Some read) ≡ readings_of read) [
+      | true ↦ λ h.
+          elim (text_of read) as (λ o. text_of read ≡ o → None ≡ option_map readings_of_text o) [
+            | None ↦ λ _. refl
+            | Some text ↦ λ e. absurd (too_small (nodes_in form) h (small text e))
+          ] refl
+      | false ↦ λ h. refl
+    ] refl
+
+module _ (columns : ColumnKinds) (form read : Formula) (certain : Bool) (number : ℕ) where
   abbrev told_if : Bool → Option ResolvedField
-  told_if e = if e then Some (record { code = resolved columns form certain; number_size = number }) else None
+  told_if e = if e then Some (record { code = resolved columns form read certain; number_size = number }) else None
 
   size_if : (f : Option Frame) (e : Bool) → size_through f (option_map code_of (told_if e)) ≡ told_nodes (if e then framed f form else null)
   size_if None true = refl
@@ -146,11 +161,23 @@ module _ (columns : ColumnKinds) (form : Formula) (certain : Bool) (number : ℕ
   size_if None false = refl
   size_if (Some f) false = refl
 
-  kinds_if_told : (f : Option Frame) (e : Bool) → kinds_through f (option_map code_of (told_if e)) ≡ kinds_in columns (if e then framed f form else null)
-  kinds_if_told None true = refl
-  kinds_if_told (Some f) true = refl
-  kinds_if_told None false = refl
-  kinds_if_told (Some f) false = refl
+  side_if_told : (f : Option Frame) (e : Bool) → IsSmall form read → side_through f (option_map code_of (told_if e)) ≡ side_of (kinds_at columns) (if e then framed f read else null)
+  side_if_told None true small = λ i. record { kinds = kinds_in columns read; literal = kept_readings form read small i }
+  side_if_told (Some f) true small = refl
+  side_if_told None false small = refl
+  side_if_told (Some f) false small = refl
+
+  framed_side : (f : Option Frame) → side_framed f (side_of (kinds_at columns) read) ≡ side_of (kinds_at columns) (framed f read)
+  framed_side None = refl
+  framed_side (Some f) = refl
+
+  kept_if_told : (f : Option Frame) (e : Bool) → kept_side_through f (option_map code_of (told_if e)) ≡ side_of (kinds_at columns) (formula_through f (option_map code_of (told_if e)))
+  kept_if_told f true =
+      elim (nat_lt most_nodes (nodes_in form)) as (λ b. side_if (if b then None else Some read) (side_framed f (record { kinds = kinds_in columns read; literal = option_and_then readings_of (if b then None else Some read) })) ≡ side_of (kinds_at columns) (formula_framed f (if b then None else Some read))) [
+        | true ↦ refl
+        | false ↦ framed_side f
+      ]
+  kept_if_told f false = refl
 
   certain_if : (e : Bool) → is_certain_through (option_map code_of (told_if e)) ≡ (e && certain)
   certain_if true = refl
@@ -161,9 +188,9 @@ module _ (columns : ColumnKinds) (form : Formula) (certain : Bool) (number : ℕ
   larger (Some f) h = grind arith
 
   formula_if : (f : Option Frame) (e : Bool)
-      → ((if e then framed f form else null) ≡ formula_through f (option_map code_of (told_if e))) ⊎ (most_nodes < nodes_in (if e then framed f form else null))
+      → ((if e then framed f read else null) ≡ formula_through f (option_map code_of (told_if e))) ⊎ (most_nodes < nodes_in (if e then framed f form else null))
   formula_if f true =
-      elim (nat_lt most_nodes (nodes_in form)) as (λ b. nat_lt most_nodes (nodes_in form) ≡ b → (framed f form ≡ formula_framed f (if b then None else Some form)) ⊎ (most_nodes < nodes_in (framed f form))) [
+      elim (nat_lt most_nodes (nodes_in form)) as (λ b. nat_lt most_nodes (nodes_in form) ≡ b → (framed f read ≡ formula_framed f (if b then None else Some read)) ⊎ (most_nodes < nodes_in (framed f form))) [
         | true ↦ λ h. inr (larger f h)
         | false ↦ λ h. inl refl
       ] refl
@@ -180,6 +207,9 @@ module _ (schema : Schema) (views : List DeclaredView) (scope : Scope) (columns 
   abbrev formulas : Place → Formula
   formulas place = formula_of schema views scope columns u place
 
+  abbrev reads : Place → Formula
+  reads place = dated_of schema views scope columns u place
+
   abbrev certain : Place → Bool
   certain place = is_certain schema views scope columns u place
 
@@ -195,34 +225,47 @@ module _ (schema : Schema) (views : List DeclaredView) (scope : Scope) (columns 
   abbrev reached : Option Found → Formula
   reached found = through schema views scope columns u formulas found
 
+  abbrev reached_read : Option Found → Formula
+  reached_read found = through schema views scope columns u reads found
+
   size_found : (found : Option Found) → Told found → size_of fields (field_referent places found) ≡ told_nodes (reached found)
   size_found None h = refl
   size_found (Some fd) h =
       size_at columns u fields fd.frame (number_of places fd.place)
       ∙ ap (λ o. size_through fd.frame (option_map code_of o)) h
-      ∙ size_if columns (formulas fd.place) (certain fd.place) (told (numbers fd.place)) fd.frame (ends views scope fd.place)
+      ∙ size_if columns (formulas fd.place) (reads fd.place) (certain fd.place) (told (numbers fd.place)) fd.frame (ends views scope fd.place)
 
-  kinds_found : (found : Option Found) → Told found → kinds_of_referent columns u fields (field_referent places found) ≡ kinds_in columns (reached found)
-  kinds_found None h = refl
-  kinds_found (Some fd) h =
-      kinds_at columns u fields fd.frame (number_of places fd.place)
-      ∙ ap (λ o. kinds_through fd.frame (option_map code_of o)) h
-      ∙ kinds_if_told columns (formulas fd.place) (certain fd.place) (told (numbers fd.place)) fd.frame (ends views scope fd.place)
+  side_found : (found : Option Found) → Told found → side_of_referent columns u fields (field_referent places found) ≡ side_of (kinds_at columns) (reached_read found)
+  side_found None h = refl
+  side_found (Some fd) h =
+      side_at columns u fields fd.frame (number_of places fd.place)
+      ∙ ap (λ o. side_through fd.frame (option_map code_of o)) h
+      ∙ side_if_told columns (formulas fd.place) (reads fd.place) (certain fd.place) (told (numbers fd.place)) fd.frame (ends views scope fd.place) (formula_small schema views scope columns u fd.place)
+
+  kept_side_found : (found : Option Found) → Told found
+      → kept_side_of columns u fields (field_referent places found) ≡ side_of (kinds_at columns) (formula_of_referent columns u fields (field_referent places found))
+  kept_side_found None h = refl
+  kept_side_found (Some fd) h =
+      kept_side_at columns u fields fd.frame (number_of places fd.place)
+      ∙ ap (λ o. kept_side_through fd.frame (option_map code_of o)) h
+      ∙ kept_if_told columns (formulas fd.place) (reads fd.place) (certain fd.place) (told (numbers fd.place)) fd.frame (ends views scope fd.place)
+      ∙ ap (λ o. side_of (kinds_at columns) (formula_through fd.frame (option_map code_of o))) (sym h)
+      ∙ ap (side_of (kinds_at columns)) (sym (formula_at columns u fields fd.frame (number_of places fd.place)))
 
   certain_found : (found : Option Found) → Told found → is_certain_referent columns fields (field_referent places found) ≡ knows_through schema views scope columns u certain found
   certain_found None h = refl
   certain_found (Some fd) h =
       certain_at columns u fields fd.frame (number_of places fd.place)
       ∙ ap (λ o. is_certain_through (option_map code_of o)) h
-      ∙ certain_if columns (formulas fd.place) (certain fd.place) (told (numbers fd.place)) (ends views scope fd.place)
+      ∙ certain_if columns (formulas fd.place) (reads fd.place) (certain fd.place) (told (numbers fd.place)) (ends views scope fd.place)
 
   formula_found : (found : Option Found) → Told found
-      → (reached found ≡ formula_of_referent columns u fields (field_referent places found)) ⊎ (most_nodes < nodes_in (reached found))
+      → (reached_read found ≡ formula_of_referent columns u fields (field_referent places found)) ⊎ (most_nodes < nodes_in (reached found))
   formula_found None h = inl refl
   formula_found (Some fd) h =
       let same = formula_at columns u fields fd.frame (number_of places fd.place) ∙ ap (λ o. formula_through fd.frame (option_map code_of o)) h in
-      subst (λ t. (reached (Some fd) ≡ t) ⊎ (most_nodes < nodes_in (reached (Some fd)))) (sym same)
-      (formula_if columns (formulas fd.place) (certain fd.place) (told (numbers fd.place)) fd.frame (ends views scope fd.place))
+      subst (λ t. (reached_read (Some fd) ≡ t) ⊎ (most_nodes < nodes_in (reached (Some fd)))) (sym same)
+      (formula_if columns (formulas fd.place) (reads fd.place) (certain fd.place) (told (numbers fd.place)) fd.frame (ends views scope fd.place))
 
   one_within : (p : Place) → ends views scope p ≡ false → (n : ℕ) → number_nodes_within views scope n p ≡ 1
   one_within p h zero = refl
@@ -233,7 +276,7 @@ module _ (schema : Schema) (views : List DeclaredView) (scope : Scope) (columns 
   number_found (Some fd) h =
       number_at columns u fields fd.frame (number_of places fd.place)
       ∙ ap number_size_through h
-      ∙ number_if_told (resolved columns (formulas fd.place) (certain fd.place)) (ends views scope fd.place) (numbers fd.place)
+      ∙ number_if_told (resolved columns (formulas fd.place) (reads fd.place) (certain fd.place)) (ends views scope fd.place) (numbers fd.place)
       (λ e. one_within fd.place e (length (all_places views scope)))
 
   module _ (w : Writer) where
@@ -242,6 +285,9 @@ module _ (schema : Schema) (views : List DeclaredView) (scope : Scope) (columns 
 
     abbrev meanings : List Reference → List Formula
     meanings rs = map (meaning schema views scope columns u formulas w) rs
+
+    abbrev meanings_read : List Reference → List Formula
+    meanings_read rs = map (meaning schema views scope columns u reads w) rs
 
     abbrev AllTold : Sort → List Reference → Type 0
     AllTold s rs = AreAllTold schema views scope columns u places fields w s rs
@@ -254,10 +300,17 @@ module _ (schema : Schema) (views : List DeclaredView) (scope : Scope) (columns 
     one_size (reference.Own name) h = size_found (field_named views scope w sort.Dimension (reference.Own name)) h
     one_size (reference.Of view name) h = size_found (field_named views scope w sort.Dimension (reference.Of view name)) h
 
-    one_kinds : (r : Reference) → Told (field_named views scope w sort.Dimension r) → kinds_of_referent columns u fields (referent_of schema views scope places w sort.Dimension r) ≡ kinds_in columns (meaning schema views scope columns u formulas w r)
-    one_kinds (reference.Column name) h = kinds_column columns u fields (part_of w) (named name)
-    one_kinds (reference.Own name) h = kinds_found (field_named views scope w sort.Dimension (reference.Own name)) h
-    one_kinds (reference.Of view name) h = kinds_found (field_named views scope w sort.Dimension (reference.Of view name)) h
+    one_side : (r : Reference) → Told (field_named views scope w sort.Dimension r)
+        → side_of_referent columns u fields (referent_of schema views scope places w sort.Dimension r) ≡ side_of (kinds_at columns) (meaning schema views scope columns u reads w r)
+    one_side (reference.Column name) h = side_column columns u fields (part_of w) (named name)
+    one_side (reference.Own name) h = side_found (field_named views scope w sort.Dimension (reference.Own name)) h
+    one_side (reference.Of view name) h = side_found (field_named views scope w sort.Dimension (reference.Of view name)) h
+
+    one_kept_side : (r : Reference) → Told (field_named views scope w sort.Dimension r)
+        → kept_side_of columns u fields (referent_of schema views scope places w sort.Dimension r) ≡ side_of (kinds_at columns) (formula_of_referent columns u fields (referent_of schema views scope places w sort.Dimension r))
+    one_kept_side (reference.Column name) h = kept_side_column columns u fields (part_of w) (named name)
+    one_kept_side (reference.Own name) h = kept_side_found (field_named views scope w sort.Dimension (reference.Own name)) h
+    one_kept_side (reference.Of view name) h = kept_side_found (field_named views scope w sort.Dimension (reference.Of view name)) h
 
     one_certain : (r : Reference) → Told (field_named views scope w sort.Dimension r) → is_certain_referent columns fields (referent_of schema views scope places w sort.Dimension r) ≡ knows schema views scope columns u certain w r
     one_certain (reference.Column name) h = certain_column columns u fields (part_of w) (named name)
@@ -265,7 +318,7 @@ module _ (schema : Schema) (views : List DeclaredView) (scope : Scope) (columns 
     one_certain (reference.Of view name) h = certain_found (field_named views scope w sort.Dimension (reference.Of view name)) h
 
     one_formula : (r : Reference) → Told (field_named views scope w sort.Dimension r)
-        → (meaning schema views scope columns u formulas w r ≡ formula_of_referent columns u fields (referent_of schema views scope places w sort.Dimension r))
+        → (meaning schema views scope columns u reads w r ≡ formula_of_referent columns u fields (referent_of schema views scope places w sort.Dimension r))
         ⊎ (most_nodes < nodes_in (meaning schema views scope columns u formulas w r))
     one_formula (reference.Column name) h = inl (formula_column columns u fields (part_of w) (named name))
     one_formula (reference.Own name) h = formula_found (field_named views scope w sort.Dimension (reference.Own name)) h
@@ -275,18 +328,23 @@ module _ (schema : Schema) (views : List DeclaredView) (scope : Scope) (columns 
     all_sizes [] h = refl
     all_sizes (r ∷ rs) h = let p = one_size r h.0 in let q = all_sizes rs h.1 in λ i. p i ∷ q i
 
-    all_kinds_told : (rs : List Reference) → AllTold sort.Dimension rs → map (kinds_of_referent columns u fields) (referents sort.Dimension rs) ≡ map (kinds_in columns) (meanings rs)
-    all_kinds_told [] h = refl
-    all_kinds_told (r ∷ rs) h = let p = one_kinds r h.0 in let q = all_kinds_told rs h.1 in λ i. p i ∷ q i
+    all_sides : (rs : List Reference) → AllTold sort.Dimension rs → map (side_of_referent columns u fields) (referents sort.Dimension rs) ≡ map (side_of (kinds_at columns)) (meanings_read rs)
+    all_sides [] h = refl
+    all_sides (r ∷ rs) h = let p = one_side r h.0 in let q = all_sides rs h.1 in λ i. p i ∷ q i
+
+    all_kept_sides : (rs : List Reference) → AllTold sort.Dimension rs
+        → map (kept_side_of columns u fields) (referents sort.Dimension rs) ≡ map (side_of (kinds_at columns)) (map (formula_of_referent columns u fields) (referents sort.Dimension rs))
+    all_kept_sides [] h = refl
+    all_kept_sides (r ∷ rs) h = let p = one_kept_side r h.0 in let q = all_kept_sides rs h.1 in λ i. p i ∷ q i
 
     all_formulas : (rs : List Reference) → AllTold sort.Dimension rs → (i : ℕ)
-        → (replacement (meanings rs) i ≡ replacement (map (formula_of_referent columns u fields) (referents sort.Dimension rs)) i) ⊎ (most_nodes < nodes_in (replacement (meanings rs) i))
+        → (replacement (meanings_read rs) i ≡ replacement (map (formula_of_referent columns u fields) (referents sort.Dimension rs)) i) ⊎ (most_nodes < nodes_in (replacement (meanings rs) i))
     all_formulas [] h i = inl refl
     all_formulas (r ∷ rs) h zero = one_formula r h.0
     all_formulas (r ∷ rs) h (suc i) = all_formulas rs h.1 i
 
-    pub are_told : (rs : List Reference) → AllTold sort.Dimension rs → AreTold columns u fields (referents sort.Dimension rs) (meanings rs)
-    are_told rs h = record { sizes = all_sizes rs h; kinds = all_kinds_told rs h; formulas = all_formulas rs h }
+    pub are_told : (rs : List Reference) → AllTold sort.Dimension rs → AreTold columns u fields (referents sort.Dimension rs) (meanings rs) (meanings_read rs)
+    are_told rs h = record { sizes = all_sizes rs h; sides = all_sides rs h; kept_sides = all_kept_sides rs h; formulas = all_formulas rs h }
 
     pub certain_told : (rs : List Reference) → AllTold sort.Dimension rs
         → list_all (is_certain_referent columns fields) (referents sort.Dimension rs) ≡ list_all (knows schema views scope columns u certain w) rs
@@ -308,7 +366,7 @@ module _ (schema : Schema) (views : List DeclaredView) (scope : Scope) (columns 
 -- ---- what is no expression
 
 pub other_resolved : (schema : Schema) (views : List DeclaredView) (scope : Scope) (columns : ColumnKinds) (u : UnknownColumn) (w : Writer) (c : Code)
-    → ((written : Written) → c ≡ code.Expr written → ⊥) → resolved columns null false ≡ resolved_in schema views scope columns u w c
+    → ((written : Written) → c ≡ code.Expr written → ⊥) → resolved columns null null false ≡ resolved_in schema views scope columns u w c
 other_resolved schema views scope columns u w (code.Expr written) h = absurd (h written refl)
 other_resolved schema views scope columns u w code.Absent h = refl
 other_resolved schema views scope columns u w code.Liquid h = refl
@@ -343,7 +401,7 @@ module _ (schema : Schema) (views : List DeclaredView) (scope : Scope) (columns 
       number_if_told (resolved_field schema views scope columns u p) (ends views scope p) (number_nodes views scope p) (λ e. never e (length (all_places views scope)))
 
   pub kinds_of_told : kinds_kept (field_told schema views scope columns u p) ≡ field_kinds schema views scope columns u p
-  kinds_of_told = elim (ends views scope p) as (λ b. kinds_kept (entry b) ≡ (if b then kinds_in columns (formula_of schema views scope columns u p) else every_kind)) [ true ↦ refl | false ↦ refl ]
+  kinds_of_told = elim (ends views scope p) as (λ b. kinds_kept (entry b) ≡ (if b then kinds_in columns (dated_of schema views scope columns u p) else every_kind)) [ true ↦ refl | false ↦ refl ]
 
   pub sure_of_told : is_sure_kept (field_told schema views scope columns u p) ≡ is_sure schema views scope columns u p
   sure_of_told = elim (ends views scope p) as (λ b. is_sure_kept (entry b) ≡ (b && is_certain schema views scope columns u p)) [ true ↦ refl | false ↦ refl ]

@@ -27,7 +27,7 @@ use Rattle.lk_fields.specs.Existing.{field_at, referred}
 use Rattle.lk_formulas.specs.declared.columns.ColumnKinds.{ColumnKinds}
 use Rattle.lk_formulas.specs.declared.columns.UnknownColumn.{UnknownColumn}
 use Rattle.lk_formulas.specs.FormulaKinds.{kinds_in}
-use Rattle.lk_formulas.specs.Formulas.{ends, formula_in, formula_of, is_certain}
+use Rattle.lk_formulas.specs.Formulas.{dated_in, dated_of, ends, is_certain}
 
 -- the kind of a dimension's type; an unknown type has none
 abbrev pub kind_of_type : Option DimensionType → Option Kind
@@ -112,7 +112,7 @@ misses_kind (field_sort.Measure o) kinds = if adds_numbers o then not (has_kind 
 module _ (schema : Schema) (views : List DeclaredView) (scope : Scope) (columns : ColumnKinds) (u : UnknownColumn) where
   -- the kinds that a field's expression may have; every kind where it reaches a cycle, so that this gives no further fault
   abbrev pub field_kinds : Place → KindSet
-  field_kinds place = if ends views scope place then kinds_in columns (formula_of schema views scope columns u place) else every_kind
+  field_kinds place = if ends views scope place then kinds_in columns (dated_of schema views scope columns u place) else every_kind
 
   -- all that stands in it is known
   abbrev pub is_sure : Place → Bool
@@ -144,7 +144,7 @@ module _ (schema : Schema) (views : List DeclaredView) (scope : Scope) (columns 
 
   -- kinds clash in the key; a key that is no expression is another fault
   abbrev pub key_clashes : ℕ → Code → Bool
-  key_clashes part (code.Expr written) = is_empty (kinds_in columns (formula_in schema views scope columns u (writer.Field part) (code.Expr written)))
+  key_clashes part (code.Expr written) = is_empty (kinds_in columns (dated_in schema views scope columns u (writer.Field part) (code.Expr written)))
   key_clashes part c = false
 
   -- the expression has not the kind that the field's type needs

@@ -1,4 +1,4 @@
--- The formula of a field: its expression over columns, with the fields that it refers to put in. (Looker, LookML reference: substitution operators; lookd)
+-- The formula of a field: its expression over columns, with the fields that it refers to put in; as it is written, by which its nodes are counted, and with its text literals read. (Looker, LookML reference: substitution operators; lookd)
 use Rattle.std.specs.Prelude.{ℕ, zero, suc, Bool, false, ◌&&◌, if◌then◌else◌, List, map, length, Option, Some, None, is_some}
 use Rattle.std.specs.List.{list_all}
 use Rattle.lk_val.specs.Least.{is_in}
@@ -23,10 +23,12 @@ use Rattle.lk_fields.specs.declared.scope.Writer.TheVariants as writer
 use Rattle.lk_fields.specs.Existing.{all_places, ending, field_at, is_same_place}
 use Rattle.lk_fields.specs.Scopes.{found_in}
 use Rattle.lk_fields.specs.Substituted.{replacement, substituted}
+use Rattle.lk_dated.specs.Dated.{dated_by, stands_at}
 use Rattle.lk_formulas.specs.declared.columns.ColumnKinds.{ColumnKinds}
 use Rattle.lk_formulas.specs.declared.columns.UnknownColumn.{UnknownColumn}
 use Rattle.lk_formulas.specs.declared.columns.UnknownColumn.TheVariants as unknown_column
 use Rattle.lk_formulas.specs.Columns.{column_named, known_kind}
+use Rattle.lk_formulas.specs.FormulaKinds.{kinds_in}
 
 -- what stands for something that isn't there: it has every kind, so that it gives no further fault
 abbrev pub null : Formula
@@ -65,6 +67,14 @@ abbrev pub is_known : ColumnKinds → ℕ → Option ℕ → Bool
 is_known columns part None = false
 is_known columns part (Some column) = is_some (known_kind columns part column)
 
+-- the expression of a text with what stands for each of its references, as it is written
+abbrev pub as_written : List Formula → Formula → Formula
+as_written by e = substituted (replacement by) e
+
+-- and with its text literals read, given what stands for each reference with those read already
+abbrev pub as_read : ColumnKinds → List Formula → Formula → Formula
+as_read columns by e = dated_by (kinds_in columns) (stands_at by) e
+
 module _ (schema : Schema) (views : List DeclaredView) (scope : Scope) (columns : ColumnKinds) (u : UnknownColumn) where
   -- the field that a name means, given the formulas of fields; one that reaches a cycle has none
   abbrev pub through : (Place → Formula) → Option Found → Formula
@@ -76,27 +86,40 @@ module _ (schema : Schema) (views : List DeclaredView) (scope : Scope) (columns 
   meaning further w (reference.Column name) = column_at columns u (part_of w) (column_named schema views scope (part_of w) name)
   meaning further w r = through further (field_named views scope w sort.Dimension r)
 
-  -- a code with the meanings of its references put in; what is no expression is null
-  abbrev pub expanded : (Place → Formula) → Writer → Code → Formula
-  expanded further w (code.Expr written) = substituted (replacement (map (meaning further w) written.references)) written.expr
-  expanded further w c = null
+  -- given how an expression and what stands for its references are put together
+  module _ (join : List Formula → Formula → Formula) where
+    -- a code with the meanings of its references put in; what is no expression is null
+    abbrev pub expanded : (Place → Formula) → Writer → Code → Formula
+    expanded further w (code.Expr written) = join (map (meaning further w) written.references) written.expr
+    expanded further w c = null
 
-  abbrev pub expanded_field : (Place → Formula) → ℕ → Option DeclaredField → Formula
-  expanded_field further part None = null
-  expanded_field further part (Some field) = expanded further (writer.Field part) field.sql
+    abbrev pub expanded_field : (Place → Formula) → ℕ → Option DeclaredField → Formula
+    expanded_field further part None = null
+    expanded_field further part (Some field) = expanded further (writer.Field part) field.sql
 
-  -- the formula of the field at a place, of a dimension group without its timeframe, through references at most n deep
-  abbrev pub formula_within : ℕ → Place → Formula
-  formula_within zero place = null
-  formula_within (suc n) place = expanded_field (formula_within n) place.part (field_at views scope place)
+    -- the formula of the field at a place, of a dimension group without its timeframe, through references at most n deep
+    abbrev pub formula_within : ℕ → Place → Formula
+    formula_within zero place = null
+    formula_within (suc n) place = expanded_field (formula_within n) place.part (field_at views scope place)
 
-  -- as deep as there are fields: no field reaches further without a cycle
+    -- as deep as there are fields: no field reaches further without a cycle
+    abbrev pub formula_by : Place → Formula
+    formula_by place = formula_within (length (all_places views scope)) place
+
+  -- the formula of a field as it is written
   abbrev pub formula_of : Place → Formula
-  formula_of place = formula_within (length (all_places views scope)) place
+  formula_of place = formula_by as_written place
 
-  -- the formula of a code that stands in the text of a field or in the explore's own
+  -- the formula of a code that stands in the text of a field or in the explore's own, as it is written
   abbrev pub formula_in : Writer → Code → Formula
-  formula_in w c = expanded formula_of w c
+  formula_in w c = expanded as_written formula_of w c
+
+  -- the same with text literals read: those in the field of a reference are read before its formula is put in, which is then itself a text literal that is compared, if it is one
+  abbrev pub dated_of : Place → Formula
+  dated_of place = formula_by (as_read columns) place
+
+  abbrev pub dated_in : Writer → Code → Formula
+  dated_in w c = expanded (as_read columns) dated_of w c
 
   -- ---- whether all that stands in a formula is known
 

@@ -3,7 +3,6 @@ pub mod FieldKinds
 pub mod Filling
 pub mod FormulaKinds
 pub mod Formulas
-pub mod KindNodes
 pub mod NumberNodes
 pub mod NumberSizes
 pub mod Referents

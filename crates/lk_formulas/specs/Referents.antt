@@ -1,5 +1,6 @@
 -- How the formula of a code is found: what each of its references stands for, by numbers, and what is told of that.
 use Rattle.std.specs.Prelude.{◌≡◌, ℕ, ◌+◌, ◌<◌, Bool, false, List, map, option_map, Option, Some, None, is_some, slice_index_or, ◌⊎◌}
+use Rattle.std.specs.Option.{option_and_then}
 use Rattle.lk_types.specs.Formula.{Formula}
 use Rattle.lk_types.specs.Kinds.{every_kind, kinds_framed, kinds_of_column}
 use Rattle.lk_types.specs.declared.kind_set.KindSet.{KindSet}
@@ -16,6 +17,9 @@ use Rattle.lk_fields.specs.declared.scope.Sort.{Sort}
 use Rattle.lk_fields.specs.declared.scope.Writer.{Writer}
 use Rattle.lk_fields.specs.Rows.{number_of}
 use Rattle.lk_fields.specs.Substituted.{nodes_in, replacement, told_nodes}
+use Rattle.lk_dated.specs.declared.side.Readings.{Readings}
+use Rattle.lk_dated.specs.declared.side.Side.{Side}
+use Rattle.lk_dated.specs.Sides.{no_literal, null_side, readings_of, side_of}
 use Rattle.lk_formulas.specs.declared.columns.ColumnKinds.{ColumnKinds}
 use Rattle.lk_formulas.specs.declared.columns.UnknownColumn.{UnknownColumn}
 use Rattle.lk_formulas.specs.declared.columns.UnknownColumn.TheVariants as unknown_column
@@ -24,7 +28,7 @@ use Rattle.lk_formulas.specs.declared.referent.Referent.TheVariants as referent
 use Rattle.lk_formulas.specs.declared.resolved.ResolvedCode.{ResolvedCode}
 use Rattle.lk_formulas.specs.declared.resolved.ResolvedField.{ResolvedField}
 use Rattle.lk_formulas.specs.Columns.{column_named, known_kind}
-use Rattle.lk_formulas.specs.FormulaKinds.{kinds_in}
+use Rattle.lk_formulas.specs.FormulaKinds.{kinds_at}
 use Rattle.lk_formulas.specs.Formulas.{column_formula, field_named, framed, null, part_of}
 use Rattle.lk_formulas.specs.NumberSizes.{told}
 use Rattle.lk_formulas.specs.Resolved.{most_nodes}
@@ -71,22 +75,29 @@ abbrev pub size_of : List (Option ResolvedField) → Referent → ℕ
 size_of fields (referent.Field number f) = size_through f (code_numbered fields number)
 size_of fields r = 1
 
-abbrev pub kinds_in_frame : Option Frame → KindSet → KindSet
-kinds_in_frame None kinds = kinds
-kinds_in_frame (Some f) kinds = kinds_framed f kinds
+-- the kinds of a formula, and what it writes where it is a text literal; one that is too large to be kept is none
+abbrev pub readings_kept : Option Formula → Option Readings
+readings_kept e = option_and_then readings_of e
 
-abbrev pub kinds_through : Option Frame → Option ResolvedCode → KindSet
-kinds_through f None = every_kind
-kinds_through f (Some code) = kinds_in_frame f code.kinds
+abbrev pub side_of_code : ResolvedCode → Side
+side_of_code code = record { kinds = code.kinds; literal = readings_kept code.expr }
+
+abbrev pub side_framed : Option Frame → Side → Side
+side_framed None side = side
+side_framed (Some f) side = no_literal (kinds_framed f side.kinds)
+
+abbrev pub side_through : Option Frame → Option ResolvedCode → Side
+side_through f None = null_side
+side_through f (Some code) = side_framed f (side_of_code code)
 
 abbrev pub column_kinds : UnknownColumn → Option Kind → KindSet
 column_kinds unknown_column.Null None = every_kind
 column_kinds u k = kinds_of_column k
 
-abbrev pub kinds_of_referent : ColumnKinds → UnknownColumn → List (Option ResolvedField) → Referent → KindSet
-kinds_of_referent columns u fields referent.Nothing = every_kind
-kinds_of_referent columns u fields (referent.Column part column) = column_kinds u (known_kind columns part column)
-kinds_of_referent columns u fields (referent.Field number f) = kinds_through f (code_numbered fields number)
+abbrev pub side_of_referent : ColumnKinds → UnknownColumn → List (Option ResolvedField) → Referent → Side
+side_of_referent columns u fields referent.Nothing = null_side
+side_of_referent columns u fields (referent.Column part column) = no_literal (column_kinds u (known_kind columns part column))
+side_of_referent columns u fields (referent.Field number f) = side_through f (code_numbered fields number)
 
 abbrev pub is_certain_through : Option ResolvedCode → Bool
 is_certain_through None = false
@@ -111,6 +122,19 @@ formula_of_referent columns u fields referent.Nothing = null
 formula_of_referent columns u fields (referent.Column part column) = column_formula u (known_kind columns part column) part column
 formula_of_referent columns u fields (referent.Field number f) = formula_through f (code_numbered fields number)
 
+-- what is told of it: of null, where that stands for a formula
+abbrev pub side_if : Option Formula → Side → Side
+side_if None side = null_side
+side_if (Some e) side = side
+
+abbrev pub kept_side_through : Option Frame → Option ResolvedCode → Side
+kept_side_through f None = null_side
+kept_side_through f (Some code) = side_if code.expr (side_framed f (side_of_code code))
+
+abbrev pub kept_side_of : ColumnKinds → UnknownColumn → List (Option ResolvedField) → Referent → Side
+kept_side_of columns u fields (referent.Field number f) = kept_side_through f (code_numbered fields number)
+kept_side_of columns u fields r = side_of_referent columns u fields r
+
 abbrev pub number_size_through : Option ResolvedField → ℕ
 number_size_through None = 1
 number_size_through (Some field) = field.number_size
@@ -120,8 +144,9 @@ abbrev pub number_size_of : List (Option ResolvedField) → Referent → ℕ
 number_size_of fields (referent.Field number f) = number_size_through (field_numbered fields number)
 number_size_of fields r = 1
 
--- what is told of some referents is what is told of these formulas; those that are too large may differ
-pub record AreTold (columns : ColumnKinds) (u : UnknownColumn) (fields : List (Option ResolvedField)) (referents : List Referent) (by : List Formula) : Type 0 where
+-- what is told of some referents is what is told of these formulas, as they are written and read; those that are too large may differ
+pub record AreTold (columns : ColumnKinds) (u : UnknownColumn) (fields : List (Option ResolvedField)) (referents : List Referent) (by read : List Formula) : Type 0 where
   pub sizes : map (size_of fields) referents ≡ map told_nodes by
-  pub kinds : map (kinds_of_referent columns u fields) referents ≡ map (kinds_in columns) by
-  pub formulas : (i : ℕ) → (replacement by i ≡ replacement (map (formula_of_referent columns u fields) referents) i) ⊎ (most_nodes < nodes_in (replacement by i))
+  pub sides : map (side_of_referent columns u fields) referents ≡ map (side_of (kinds_at columns)) read
+  pub kept_sides : map (kept_side_of columns u fields) referents ≡ map (side_of (kinds_at columns)) (map (formula_of_referent columns u fields) referents)
+  pub formulas : (i : ℕ) → (replacement read i ≡ replacement (map (formula_of_referent columns u fields) referents) i) ⊎ (most_nodes < nodes_in (replacement by i))

@@ -16,29 +16,29 @@ use Rattle.lk_formulas.specs.declared.resolved.ResolvedCode.{ResolvedCode}
 use Rattle.lk_formulas.specs.declared.resolved.ResolvedField.{ResolvedField}
 use Rattle.lk_formulas.specs.declared.table.FieldTable.{FieldTable}
 use Rattle.lk_formulas.specs.FormulaKinds.{kinds_in}
-use Rattle.lk_formulas.specs.Formulas.{ends, formula_in, formula_of, is_certain, is_certain_in}
+use Rattle.lk_formulas.specs.Formulas.{dated_in, dated_of, ends, formula_in, formula_of, is_certain, is_certain_in}
 use Rattle.lk_formulas.specs.NumberSizes.{number_nodes, told}
 
 -- the most nodes that an expression may have (lookd)
 abbrev pub most_nodes : ℕ
 most_nodes = 10000
 
--- the formula, where it has not too many nodes
-abbrev pub kept : Formula → Option Formula
-kept e = if nat_lt most_nodes (nodes_in e) then None else Some e
+-- a formula with its text literals read, where as it is written it has not too many nodes
+abbrev pub kept : Formula → Formula → Option Formula
+kept e read = if nat_lt most_nodes (nodes_in e) then None else Some read
 
--- what is told of a formula, given whether all that stands in it is known
-abbrev pub resolved : ColumnKinds → Formula → Bool → ResolvedCode
-resolved columns e certain = record { size = told_nodes e; kinds = kinds_in columns e; is_certain = certain; expr = kept e }
+-- what is told of a formula, given it as it is written and read, and whether all that stands in it is known
+abbrev pub resolved : ColumnKinds → Formula → Formula → Bool → ResolvedCode
+resolved columns e read certain = record { size = told_nodes e; kinds = kinds_in columns read; is_certain = certain; expr = kept e read }
 
 module _ (schema : Schema) (views : List DeclaredView) (scope : Scope) (columns : ColumnKinds) (u : UnknownColumn) where
   -- of a field's `sql`
   abbrev pub resolved_field : Place → ResolvedCode
-  resolved_field place = resolved columns (formula_of schema views scope columns u place) (is_certain schema views scope columns u place)
+  resolved_field place = resolved columns (formula_of schema views scope columns u place) (dated_of schema views scope columns u place) (is_certain schema views scope columns u place)
 
   -- of a code that stands in the text of a field or in the explore's own
   abbrev pub resolved_in : Writer → Code → ResolvedCode
-  resolved_in w c = resolved columns (formula_in schema views scope columns u w c) (is_certain_in schema views scope columns u w c)
+  resolved_in w c = resolved columns (formula_in schema views scope columns u w c) (dated_in schema views scope columns u w c) (is_certain_in schema views scope columns u w c)
 
   -- what is kept of a field
   abbrev pub field_kept : Place → ResolvedField

@@ -1,22 +1,25 @@
 ghost use Rattle.std.specs.Prelude.{◌≡◌, ◌<◌, Some, None, IfOk, List, false, length, map, nat_lt, slice_set, if◌then◌else◌};
 ghost use Rattle.std.specs.List.{list_all};
 ghost use Rattle.lk_types.specs.Formula.{Formula};
-ghost use Rattle.lk_fields.specs.Substituted.{replacement, substituted};
+ghost use Rattle.lk_dated.specs.Sides.{side_of};
 ghost use Rattle.lk_formulas.specs.declared.columns.ColumnKinds.{ColumnKinds};
 ghost use Rattle.lk_formulas.specs.declared.columns.UnknownColumn.{UnknownColumn};
-ghost use Rattle.lk_formulas.specs.Formulas.{null};
+ghost use Rattle.lk_formulas.specs.FormulaKinds.{kinds_at};
+ghost use Rattle.lk_formulas.specs.Formulas.{as_read, as_written, null};
 ghost use Rattle.lk_formulas.specs.NumberSizes.{nodes_of_code, number_nodes, told};
-ghost use Rattle.lk_formulas.specs.Referents.{AreTold, formula_of_referent, is_certain_referent};
+ghost use Rattle.lk_formulas.specs.Referents.{AreTold, formula_of_referent, is_certain_referent, kept_side_of};
 ghost use Rattle.lk_formulas.specs.Resolved.{most_nodes, resolved, resolved_in};
 ghost use Rattle.lk_formulas.specs.Told.{IsCodeTold};
 
 use crate::columns::{ColumnKinds, UnknownColumn};
-use crate::kinds::kinds_with;
 use crate::number_size::nodes_by;
 use crate::referent::{Names, Referent, referents_of};
 use crate::resolved::{ResolvedCode, ResolvedField};
-use crate::stand_in::{are_certain, formulas_of, kinds_of_all, null, number_sizes_of, sizes_of};
-use lk_fields::{Sort, Writer, nodes_with, substituted};
+use crate::stand_in::{
+    are_certain, formulas_of, kept_sides_of, null, number_sizes_of, sides_of, sizes_of,
+};
+use lk_dated::{dated, kinds_dated};
+use lk_fields::{Sort, Writer, nodes_with};
 use lk_objects::Code;
 use lk_types::{Expr, KindSet};
 use lk_val::NoMemory;
@@ -51,7 +54,7 @@ pub(crate) fn resolved_code(
 
 // What is no expression is null.
 pub(crate) fn resolved_null(alloc: Global) -> Result<ResolvedCode, NoMemory>
-    ensures { (columns : ColumnKinds) → IfOk result (λ made. made ≡ resolved columns null false) }
+    ensures { (columns : ColumnKinds) → IfOk result (λ made. made ≡ resolved columns null null false) }
 {
     Ok(ResolvedCode {
         size: 1,
@@ -70,14 +73,14 @@ fn resolved_with(
     referents: &[Referent],
     expr: &Expr,
 ) -> Result<ResolvedCode, NoMemory>
-    ensures { (by : List Formula) → AreTold columns.now unknown fields.now referents.now by
+    ensures { (by read : List Formula) → AreTold columns.now unknown fields.now referents.now by read
         → IfOk result (λ made. made
-        ≡ resolved columns.now (substituted (replacement by) expr.now) (list_all (is_certain_referent columns.now fields.now) referents.now)) }
+        ≡ resolved columns.now (as_written by expr.now) (as_read columns.now read expr.now) (list_all (is_certain_referent columns.now fields.now) referents.now)) }
 {
     let sizes = sizes_of(alloc, fields, referents)?;
-    let by = kinds_of_all(alloc, columns, unknown, fields, referents)?;
+    let sides = sides_of(alloc, columns, unknown, fields, referents)?;
     let size = nodes_with(expr, sizes.as_slice());
-    let kinds = kinds_with(alloc, expr, by.as_slice())?;
+    let kinds = kinds_dated(alloc, expr, sides.as_slice())?;
     Ok(ResolvedCode {
         size,
         kinds,
@@ -86,7 +89,8 @@ fn resolved_with(
     })
 }
 
-// The formula itself, where its size is not too large. It is made only then, since an expression may grow exponentially.
+// The formula itself with its text literals read, where its size is not too large. It is made only then, since an
+// expression may grow exponentially.
 fn kept(
     alloc: Global,
     columns: &ColumnKinds,
@@ -96,14 +100,16 @@ fn kept(
     expr: &Expr,
     size: usize,
 ) -> Result<Option<Expr>, NoMemory>
-    ensures { IfOk result (λ made. made ≡ (if nat_lt most_nodes size then None
-        else Some (substituted (replacement (map (formula_of_referent columns.now unknown fields.now) referents.now)) expr.now))) }
+    ensures { map (kept_side_of columns.now unknown fields.now) referents.now ≡ map (side_of (kinds_at columns.now)) (map (formula_of_referent columns.now unknown fields.now) referents.now)
+        → IfOk result (λ made. made ≡ (if nat_lt most_nodes size then None
+        else Some (as_read columns.now (map (formula_of_referent columns.now unknown fields.now) referents.now) expr.now))) }
 {
     if size > MOST_NODES {
         return Ok(None);
     }
+    let sides = kept_sides_of(alloc, columns, unknown, fields, referents)?;
     let by = formulas_of(alloc, columns, unknown, fields, referents)?;
-    Ok(Some(substituted(alloc, expr, by.as_slice())?))
+    Ok(Some(dated(alloc, expr, sides.as_slice(), by.as_slice())?))
 }
 
 // How many nodes a code has as the expression of a measure of type number, where the measures that it refers to are told.

@@ -2,11 +2,12 @@ ghost use Rattle.std.specs.Prelude.{◌≡◌, ◌++◌, IfOk, map, option_map, 
 ghost use Rattle.std.specs.List.{list_all};
 ghost use Rattle.lk_types.specs.Kinds.{kinds_of_column};
 ghost use Rattle.lk_formulas.specs.Formulas.{column_formula, framed, null};
-ghost use Rattle.lk_formulas.specs.Referents.{code_numbered, column_kinds, field_numbered, formula_framed, formula_of_referent, formula_through, is_certain_referent, is_certain_through, kinds_in_frame, kinds_of_referent, kinds_through, number_size_of, size_framed, size_of, size_through};
+ghost use Rattle.lk_formulas.specs.Referents.{code_numbered, column_kinds, field_numbered, formula_framed, formula_of_referent, formula_through, is_certain_referent, is_certain_through, kept_side_of, kept_side_through, number_size_of, readings_kept, side_framed, side_if, side_of_code, side_of_referent, side_through, size_framed, size_of, size_through};
 
 use crate::columns::{ColumnKinds, UnknownColumn, known_kind};
 use crate::referent::Referent;
 use crate::resolved::{ResolvedCode, ResolvedField};
+use lk_dated::{Readings, Side, readings_of};
 use lk_eval::kinds_framed;
 use lk_types::{Expr, Frame, Kind, KindSet, Node};
 use lk_val::{Items, NoMemory, Value};
@@ -72,35 +73,37 @@ fn size_through(frame: Option<Frame>, code: Option<&ResolvedCode>) -> usize
     }
 }
 
-// The kinds that what stands for each referent may have.
-pub(crate) fn kinds_of_all(
+// What is told of what stands for each referent, as a side of a comparison.
+pub(crate) fn sides_of(
     alloc: Global,
     columns: &ColumnKinds,
     unknown: UnknownColumn,
     fields: &[Option<ResolvedField>],
     referents: &[Referent],
-) -> Result<Items<KindSet>, NoMemory>
-    ensures { IfOk result (λ kinds. kinds ≡ map (kinds_of_referent columns.now unknown fields.now) referents.now) }
+) -> Result<Items<Side>, NoMemory>
+    ensures { IfOk result (λ sides. sides ≡ map (side_of_referent columns.now unknown fields.now) referents.now) }
 {
-    let mut kinds = Items::new(alloc);
+    let mut sides = Items::new(alloc);
     for referent in referents {
-        kinds.push(kinds_of_referent(columns, unknown, fields, *referent))?;
+        sides.push(side_of_referent(columns, unknown, fields, *referent))?;
     }
-    Ok(kinds)
+    Ok(sides)
 }
 
-fn kinds_of_referent(
+fn side_of_referent(
     columns: &ColumnKinds,
     unknown: UnknownColumn,
     fields: &[Option<ResolvedField>],
     referent: Referent,
-) -> KindSet
-    ensures { result ≡ kinds_of_referent columns.now unknown fields.now referent }
+) -> Side
+    ensures { result ≡ side_of_referent columns.now unknown fields.now referent }
 {
     match referent {
-        Referent::Nothing => KindSet::every(),
-        Referent::Column(part, column) => column_kinds(unknown, known_kind(columns, part, column)),
-        Referent::Field(number, frame) => kinds_through(frame, code_numbered(fields, number)),
+        Referent::Nothing => Side::null(),
+        Referent::Column(part, column) => {
+            Side::no_literal(column_kinds(unknown, known_kind(columns, part, column)))
+        }
+        Referent::Field(number, frame) => side_through(frame, code_numbered(fields, number)),
     }
 }
 
@@ -114,13 +117,92 @@ fn column_kinds(unknown: UnknownColumn, kind: Option<Kind>) -> KindSet
     }
 }
 
-fn kinds_through(frame: Option<Frame>, code: Option<&ResolvedCode>) -> KindSet
-    ensures { result ≡ kinds_through frame (option_map (λ c. c.now) code.entry) }
+/// What is told of the formula of a field with a timeframe as a side of a comparison; of a field without a formula, null. (lookd)
+pub fn side_through(frame: Option<Frame>, code: Option<&ResolvedCode>) -> Side
+    ensures { result ≡ side_through frame (option_map (λ c. c.now) code.entry) }
 {
-    match (code, frame) {
-        (None, _) => KindSet::every(),
-        (Some(code), None) => code.kinds,
-        (Some(code), Some(frame)) => kinds_framed(frame, code.kinds),
+    match code {
+        None => Side::null(),
+        Some(code) => side_framed(frame, side_of_code(code)),
+    }
+}
+
+fn side_framed(frame: Option<Frame>, side: Side) -> Side
+    ensures { result ≡ side_framed frame side }
+{
+    match frame {
+        None => side,
+        Some(frame) => Side::no_literal(kinds_framed(frame, side.kinds)),
+    }
+}
+
+fn side_of_code(code: &ResolvedCode) -> Side
+    ensures { result ≡ side_of_code code.now }
+{
+    Side {
+        kinds: code.kinds,
+        literal: readings_kept(&code.expr),
+    }
+}
+
+// A formula that is too large to be kept is no text literal.
+fn readings_kept(expr: &Option<Expr>) -> Option<Readings>
+    ensures { result ≡ readings_kept expr.now }
+{
+    match expr {
+        None => None,
+        Some(expr) => readings_of(expr),
+    }
+}
+
+// The same of what stands for each referent in a formula: null in place of one that is too large to be kept.
+pub(crate) fn kept_sides_of(
+    alloc: Global,
+    columns: &ColumnKinds,
+    unknown: UnknownColumn,
+    fields: &[Option<ResolvedField>],
+    referents: &[Referent],
+) -> Result<Items<Side>, NoMemory>
+    ensures { IfOk result (λ sides. sides ≡ map (kept_side_of columns.now unknown fields.now) referents.now) }
+{
+    let mut sides = Items::new(alloc);
+    for referent in referents {
+        sides.push(kept_side_of(columns, unknown, fields, *referent))?;
+    }
+    Ok(sides)
+}
+
+fn kept_side_of(
+    columns: &ColumnKinds,
+    unknown: UnknownColumn,
+    fields: &[Option<ResolvedField>],
+    referent: Referent,
+) -> Side
+    ensures { result ≡ kept_side_of columns.now unknown fields.now referent }
+{
+    match referent {
+        Referent::Field(number, frame) => kept_side_through(frame, code_numbered(fields, number)),
+        Referent::Nothing | Referent::Column(_, _) => {
+            side_of_referent(columns, unknown, fields, referent)
+        }
+    }
+}
+
+fn kept_side_through(frame: Option<Frame>, code: Option<&ResolvedCode>) -> Side
+    ensures { result ≡ kept_side_through frame (option_map (λ c. c.now) code.entry) }
+{
+    match code {
+        None => Side::null(),
+        Some(code) => side_if(&code.expr, side_framed(frame, side_of_code(code))),
+    }
+}
+
+fn side_if(expr: &Option<Expr>, side: Side) -> Side
+    ensures { result ≡ side_if expr.now side }
+{
+    match expr {
+        None => Side::null(),
+        Some(_) => side,
     }
 }
 

@@ -5,8 +5,7 @@ use Rattle.lk_objects.specs.declared.code.Code.{Code}
 use Rattle.lk_objects.specs.declared.code.Code.TheVariants as code
 use Rattle.lk_objects.specs.declared.code.Reference.{Reference}
 use Rattle.lk_fields.specs.declared.scope.Sort.TheVariants as sort
-use Rattle.lk_fields.specs.Substituted.{replacement, substituted}
-use Rattle.lk_formulas.specs.Formulas.{formula_of, meaning, null}
+use Rattle.lk_formulas.specs.Formulas.{as_read, as_written, dated_of, formula_of, meaning, null}
 use Rattle.lk_formulas.specs.Referents.{AreTold, is_certain_referent, referent_of}
 use Rattle.lk_formulas.specs.Resolved.{resolved, resolved_in}
 use Rattle.lk_formulas.specs.Told.{IsCodeTold}
@@ -30,17 +29,19 @@ returns-in_ok-referents-in-Expr c =
     let rs = c.in-Expr.written.references in
     let one = referent_of schema views scope places w sort.Dimension in
     let by = map (meaning schema views scope columns u (formula_of schema views scope columns u) w) rs in
+    let read = map (meaning schema views scope columns u (dated_of schema views scope columns u) w) rs in
+    let expr = c.in-Expr.written.expr in
     let same : c.as_slice-referents.result.now ≡ map one rs =
     c.as_slice-referents.ensures ∙ c.in_ok-referents-in-Expr.ensures ∙ ap (λ (t : List Reference). map one t) c.as_slice-references.ensures in
-    IfOk-weaker r (λ made. made ≡ resolved columns (substituted (replacement by) c.in-Expr.written.expr) (list_all (is_certain_referent columns fields) c.as_slice-referents.result.now))
+    IfOk-weaker r (λ made. made ≡ resolved columns (as_written by expr) (as_read columns read expr) (list_all (is_certain_referent columns fields) c.as_slice-referents.result.now))
     (λ made. made ≡ resolved_in schema views scope columns u w (code.Expr c.in-Expr.written))
-    (λ made is. is ∙ ap (λ b. resolved columns (substituted (replacement by) c.in-Expr.written.expr) b)
+    (λ made is. is ∙ ap (λ b. resolved columns (as_written by expr) (as_read columns read expr) b)
     (ap (λ t. list_all (is_certain_referent columns fields) t) same ∙ certain_told schema views scope columns u places fields w rs told))
-    (c.resolved_with.ensures by (subst (λ t. AreTold columns u fields t by) (sym same) (are_told schema views scope columns u places fields w rs told))))
+    (c.resolved_with.ensures by read (subst (λ t. AreTold columns u fields t by read) (sym same) (are_told schema views scope columns u places fields w rs told))))
 
 pub returns-in_default : goal.returns-in_default
 returns-in_default c = λ told.
-    IfOk-weaker c.resolved_null.result (λ made. made ≡ resolved c.args.columns.now null false)
+    IfOk-weaker c.resolved_null.result (λ made. made ≡ resolved c.args.columns.now null null false)
     (λ made. made ≡ resolved_in c.args.names.now.schema.now c.args.names.now.views.now c.args.names.now.scope.now c.args.columns.now c.args.unknown c.args.writer c.args.code.now)
     (λ made is. is ∙ other_resolved c.args.names.now.schema.now c.args.names.now.views.now c.args.names.now.scope.now c.args.columns.now c.args.unknown c.args.writer c.args.code.now c.in_default.not-Expr)
     (c.resolved_null.ensures c.args.columns.now)

@@ -1,0 +1,7 @@
+pub mod KindLaws
+pub mod ReadLaws
+pub mod SideLaws
+pub mod DatedLaws
+pub mod TreeLaws
+pub mod NodeLaws
+pub mod PassLaws

@@ -1,0 +1,5 @@
+pub mod FormulaKinds
+pub mod Dated
+pub mod Sides
+pub mod DatedNodes
+pub mod Samples
