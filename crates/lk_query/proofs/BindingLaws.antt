@@ -8,9 +8,10 @@ use Rattle.lk_types.specs.declared.explore.Explore.{Explore}
 use Rattle.lk_types.specs.declared.model.Model.{Model}
 use Rattle.lk_semantics.specs.Derived.{explore_at}
 use Rattle.lk_schema.specs.declared.users.Users.{Users}
+use Rattle.lk_body.specs.Bodies.{query_of}
 use Rattle.lk_body.specs.declared.fault.QueryFault.{QueryFault}
 use Rattle.lk_body.specs.declared.fault.QueryFault.TheVariants.{Q6}
-use Rattle.lk_query.specs.Bindings.{IsBound, IsBoundBehind, IsBoundFrom, IsBoundOver, bound_of, request_of}
+use Rattle.lk_query.specs.Bindings.{IsBodyBound, IsBodyBoundOver, IsBound, IsBoundBehind, IsBoundFrom, IsBoundOver, bound_of, request_of}
 use Rattle.lk_query.specs.Callers.{explore_named, user_known}
 use Rattle.lk_query.specs.Readings.{AreRead, PickFilter, nothing, read, refused, later}
 use Rattle.lk_query.specs.declared.request.Request.{Request}
@@ -49,3 +50,13 @@ over_once m users user q now (Ok known) (Ok n) a b h k = from_once (explore_at m
 
 pub bound_once : (m : Model) (users : Users) (user explore : List ℕ) (q : Query) (now : ℤ) (a b : Result Bound QueryFault) → IsBound m users user explore q now a → IsBound m users user explore q now b → a ≡ b
 bound_once m users user explore q now a b h k = over_once m users user q now (user_known users user) (explore_named m explore) a b h k
+
+body_once : (m : Model) (users : Users) (user : List ℕ) (now : ℤ) (known : Result ⊤ QueryFault) (n : Result ℕ QueryFault) (q : Result Query QueryFault) (a b : Result Bound QueryFault)
+    → IsBodyBoundOver m users user now known n q a → IsBodyBoundOver m users user now known n q b → a ≡ b
+body_once m users user now (Err fault) n q a b h k = h ∙ sym k
+body_once m users user now (Ok known) (Err fault) q a b h k = h ∙ sym k
+body_once m users user now (Ok known) (Ok n) (Err fault) a b h k = h ∙ sym k
+body_once m users user now (Ok known) (Ok n) (Ok q) a b h k = from_once (explore_at m n) n q now (request_of (explore_at m n) users user q) a b h k
+
+pub bound_body_once : (m : Model) (users : Users) (user explore body : List ℕ) (now : ℤ) (a b : Result Bound QueryFault) → IsBodyBound m users user explore body now a → IsBodyBound m users user explore body now b → a ≡ b
+bound_body_once m users user explore body now a b h k = body_once m users user now (user_known users user) (explore_named m explore) (query_of body) a b h k

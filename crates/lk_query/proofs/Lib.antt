@@ -1,8 +1,14 @@
 pub mod BindingLaws
 pub mod BoundLaws
+pub mod DateKindLaws
 pub mod InsertLaws
 pub mod JoinLaws
+pub mod KindLaws
+pub mod KindSteps
 pub mod MemoryLaws
 pub mod ModelLaws
+pub mod NumberKindLaws
+pub mod PlacedKindLaws
 pub mod ReadingLaws
 pub mod RowLaws
+pub mod TextKindLaws

@@ -17,6 +17,7 @@ use Rattle.lk_semantics.specs.Derived.{explore_at, query_joins, with_always}
 use Rattle.lk_semantics.specs.Joins.{is_fanned, part_at}
 use Rattle.lk_filter.specs.PlacedModel.{placed_field_filter}
 use Rattle.lk_schema.specs.declared.users.Users.{Users}
+use Rattle.lk_body.specs.Bodies.{query_of}
 use Rattle.lk_body.specs.declared.fault.QueryFault.{QueryFault}
 use Rattle.lk_body.specs.declared.fault.QueryFault.TheVariants.{Q7}
 use Rattle.lk_query.specs.Callers.{access_texts, explore_named, user_known}
@@ -144,3 +145,18 @@ IsBoundOver m users user q now (Ok known) (Ok n) result =
 -- a caller's query at a moment binds so, or its first refusal is this: Q2, Q1, and then those of the query
 abbrev pub IsBound : Model → Users → List ℕ → List ℕ → Query → ℤ → Result Bound QueryFault → Type 0
 IsBound m users user explore q now result = IsBoundOver m users user q now (user_known users user) (explore_named m explore) result
+
+-- ---- a query's body
+
+-- the same of what a body is read as
+abbrev pub IsBodyBoundOver : Model → Users → List ℕ → ℤ → Result ⊤ QueryFault → Result ℕ QueryFault → Result Query QueryFault → Result Bound QueryFault → Type 0
+IsBodyBoundOver m users user now (Err fault) explore query result = result ≡ Err fault
+IsBodyBoundOver m users user now (Ok known) (Err fault) query result = result ≡ Err fault
+IsBodyBoundOver m users user now (Ok known) (Ok n) (Err fault) result = result ≡ Err fault
+IsBodyBoundOver m users user now (Ok known) (Ok n) (Ok q) result =
+    IsBoundFrom (explore_at m n) n q now (request_of (explore_at m n) users user q) result
+
+-- a caller's body at a moment binds so, or its first refusal is this: Q2, Q1, Q3, and then those of the query
+abbrev pub IsBodyBound : Model → Users → List ℕ → List ℕ → List ℕ → ℤ → Result Bound QueryFault → Type 0
+IsBodyBound m users user explore body now result =
+    IsBodyBoundOver m users user now (user_known users user) (explore_named m explore) (query_of body) result

@@ -1,17 +1,18 @@
 // What a query of a caller binds to.
 
-ghost use Rattle.std.specs.Prelude.{◌≡◌, ◌≤◌, IfOk, Ok, length};
+ghost use Rattle.std.specs.Prelude.{◌≡◌, ◌<◌, ◌≤◌, IfOk, Ok, length};
 ghost use Rattle.std.specs.List.{AllByRecursion};
 ghost use Rattle.lk_val.specs.Memory.{IsUnlessMemory, UnlessMemory};
+ghost use Rattle.lk_semantics.specs.Derived.{explore_at};
 ghost use Rattle.lk_body.specs.Faults.{is_no_memory};
-ghost use Rattle.lk_query.specs.Bindings.{IsBound, IsBoundFrom, bound_of, bound_with, checked};
+ghost use Rattle.lk_query.specs.Bindings.{IsBodyBound, IsBound, IsBoundFrom, bound_of, bound_with, checked, request_of};
 
 use crate::callers::{find_explore, find_user};
 use crate::filters::{Filters, filters_at};
 use crate::measures::{first_repeated, query_joins, query_measures};
 use crate::readings::read_texts;
 use crate::request::{Request, request_of};
-use lk_body::QueryFault;
+use lk_body::{QueryFault, read_query};
 use lk_schema::Users;
 use lk_types::{Bound, Explore, Filter, Model, Pick, Query};
 use lk_val::{Items, NoMemory, Text};
@@ -35,9 +36,58 @@ pub fn bind(
 {
     find_user(alloc, users, user)?;
     let number = find_explore(alloc, m, explore)?;
-    let x = &m.explores.as_slice()[number as usize];
+    bind_over(alloc, m, users, user, number, q, now)
+}
+
+/// What a caller's body over an explore binds to, or the first of its refusals Q2, Q1, Q3, Q8, Q4, Q5, Q6, Q7: the body is
+/// read where the user and the explore are known. Else as `bind`. (lookd)
+pub fn bind_body(
+    alloc: Global,
+    m: &Model,
+    users: &Users,
+    user: &Text,
+    explore: &Text,
+    body: &[u8],
+    now: i64,
+) -> Result<Bound, QueryFault>
+    requires few { AllByRecursion (λ x. length x.joins ≤ 31) m.now.explores }
+    ensures { UnlessMemory is_no_memory result
+        (IsBodyBound m.now users.now user.now explore.now body.now now) }
+{
+    find_user(alloc, users, user)?;
+    let number = find_explore(alloc, m, explore)?;
+    let q = read_query(alloc, body)?;
+    bind_over(alloc, m, users, user, number, &q, now)
+}
+
+// The query of a caller over the explore of a number.
+fn bind_over(
+    alloc: Global,
+    m: &Model,
+    users: &Users,
+    user: &Text,
+    number: u32,
+    q: &Query,
+    now: i64,
+) -> Result<Bound, QueryFault>
+    requires few { AllByRecursion (λ x. length x.joins ≤ 31) m.now.explores }
+    requires within { number < length m.now.explores }
+    ensures { UnlessMemory is_no_memory result
+        (IsBoundFrom (explore_at m.now number) number q.now now
+        (request_of (explore_at m.now number) users.now user.now q.now)) }
+{
+    let x = explore_of(m, number);
     let request = request_of(alloc, x, users, user, q)?;
     bind_request(alloc, x, number, q, request, now)
+}
+
+fn explore_of(m: &Model, number: u32) -> &Explore
+    requires few { AllByRecursion (λ x. length x.joins ≤ 31) m.now.explores }
+    requires within { number < length m.now.explores }
+    ensures at { result.now ≡ explore_at m.now number }
+    ensures few { length result.now.joins ≤ 31 }
+{
+    &m.explores.as_slice()[number as usize]
 }
 
 // The request with its access filters read, and then its own.

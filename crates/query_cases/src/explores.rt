@@ -90,7 +90,8 @@ pub fn todays_orders(alloc: Global) -> Result<Explore, CaseFault>
     })
 }
 
-fn filter(alloc: Global, kind: FilterKind, text: &str) -> Result<Filter, CaseFault> {
+/// The filter of a kind that a text spells.
+pub fn filter(alloc: Global, kind: FilterKind, text: &str) -> Result<Filter, CaseFault> {
     read_filter(alloc, kind, text.as_bytes()).or(Err(CaseFault::NoSuchCase))
 }
 

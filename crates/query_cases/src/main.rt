@@ -4,6 +4,7 @@
 #![tactic(auto)]
 
 mod answer;
+mod carts;
 mod case;
 mod explores;
 mod parts;
