@@ -1,0 +1,10 @@
+pub mod Formulas
+pub mod Told
+pub mod Names
+pub mod Numbers
+pub mod Columns
+pub mod NumberNodes
+pub mod Filters
+pub mod Fields
+pub mod Explores
+pub mod DerivedTables

@@ -1,0 +1,280 @@
+ghost use Rattle.std.specs.Prelude.{◌≡◌, ◌++◌, Some, IfOk, flat_map, map, option_map};
+ghost use Rattle.std.specs.List.{position};
+ghost use Rattle.lk_val.specs.Texts.{is_same_text};
+ghost use Rattle.lk_resolved.specs.Explores.{access_in, access_with, always_in, datagroup_number, explore_of, first_where, measure_numbers, rollup_with, where_with};
+ghost use Rattle.lk_resolved.specs.Numbers.{AreNamed};
+ghost use Rattle.lk_resolved.specs.Told.{IsModelTold};
+
+use crate::derived_table::measure_number;
+use crate::fields::fields;
+use crate::filters::{dimension_number, filters_named, numbers_of_dimensions};
+use crate::formulas::ModelFields;
+use crate::joins::{joins, joins_named};
+use crate::measures::measures;
+use crate::names::Named;
+use crate::numbers::as_number;
+use crate::parts::parts;
+use lk_fields::Writer;
+use lk_objects::{AccessFilter, AggregateTable, Code, DeclaredExplore, ExploreFilter};
+use lk_types::{Explore, Expr, Filter, Rollup};
+use lk_val::{Items, NoMemory, Text};
+use std::alloc::Global;
+
+/// The resolved explore of a declared one: names are numbers, references are put in, and filters are read. `datagroups`
+/// are the names of the datagroups, of which each stands for its place. It is the explore of the model where the project
+/// has no fault; what is missing elsewhere is null, the first, or left out. (Looker, LookML reference: explore; lookd)
+pub fn resolved_explore(
+    alloc: Global,
+    model: &ModelFields,
+    datagroups: &[Text],
+    x: &DeclaredExplore,
+) -> Result<Explore, NoMemory>
+    requires told { IsModelTold model.now }
+    ensures { IfOk result (λ explore. explore
+        ≡ explore_of model.now.fields.now.schema.now model.now.fields.now.views.now model.now.fields.now.scope.now model.now.fields.now.columns.now (datagroup_number datagroups.now) x.now) }
+{
+    let named = Named::of(alloc, model.fields)?;
+    Ok(Explore {
+        name: x.name.copy(alloc)?,
+        parts: parts(alloc, model)?,
+        joins: joins(alloc, model, x.joins.as_slice())?,
+        fields: fields(alloc, model, &named)?,
+        measures: measures(alloc, model, &named)?,
+        always_join: joins_named(alloc, x.joins.as_slice(), x.always_join.as_slice())?,
+        always: always(alloc, model, &named, x.filters.as_slice())?,
+        always_where: where_with(alloc, model, first_where(x.filters.as_slice()))?,
+        access: access(alloc, model, &named, x.filters.as_slice())?,
+        rollups: rollups(alloc, model, &named, datagroups, x.rollups.as_slice())?,
+    })
+}
+
+fn always(
+    alloc: Global,
+    model: &ModelFields,
+    named: &Named,
+    filters: &[ExploreFilter],
+) -> Result<Items<(u32, Filter)>, NoMemory>
+    requires told { IsModelTold model.now }
+    requires named { AreNamed model.now.fields.now.views.now model.now.fields.now.scope.now named.now }
+    ensures { IfOk result (λ always. always ≡ flat_map (always_in model.now.fields.now.views.now model.now.fields.now.scope.now) filters.now) }
+{
+    let mut always = Items::new(alloc);
+    for filter in filters {
+        add_always(alloc, model, named, filter, &mut always)?;
+    }
+    Ok(always)
+}
+
+fn add_always(
+    alloc: Global,
+    model: &ModelFields,
+    named: &Named,
+    filter: &ExploreFilter,
+    always: &mut Items<(u32, Filter)>,
+) -> Result<(), NoMemory>
+    requires told { IsModelTold model.now }
+    requires named { AreNamed model.now.fields.now.views.now model.now.fields.now.scope.now named.now }
+    ensures { IfOk result (λ _. always.new ≡ always.old ++ always_in model.now.fields.now.views.now model.now.fields.now.scope.now filter.now) }
+{
+    match filter {
+        ExploreFilter::Always(declared) => {
+            let read = filters_named(alloc, model.fields, named, declared.filters.as_slice())?;
+            add_all(read, always)
+        }
+        ExploreFilter::Access(_) | ExploreFilter::Where(_, _) => Ok(()),
+    }
+}
+
+fn add_all(read: Items<(u32, Filter)>, always: &mut Items<(u32, Filter)>) -> Result<(), NoMemory>
+    ensures { IfOk result (λ _. always.new ≡ always.old ++ read) }
+{
+    for filter in read.into_vec() {
+        always.push(filter)?;
+    }
+    Ok(())
+}
+
+// The code of the first `sql_always_where`.
+fn first_where(filters: &[ExploreFilter]) -> Option<&Code>
+    ensures { option_map (λ c. c.now) result ≡ first_where filters.now }
+{
+    for filter in filters {
+        if let ExploreFilter::Where(code, _) = filter {
+            return Some(code);
+        }
+    }
+    None
+}
+
+fn where_with(
+    alloc: Global,
+    model: &ModelFields,
+    code: Option<&Code>,
+) -> Result<Option<Expr>, NoMemory>
+    requires told { IsModelTold model.now }
+    ensures { IfOk result (λ e. e
+        ≡ where_with model.now.fields.now.schema.now model.now.fields.now.views.now model.now.fields.now.scope.now model.now.fields.now.columns.now (option_map (λ c. c.now) code.entry)) }
+{
+    match code {
+        Some(code) => where_of(alloc, model, code),
+        None => Ok(None),
+    }
+}
+
+fn where_of(alloc: Global, model: &ModelFields, code: &Code) -> Result<Option<Expr>, NoMemory>
+    requires told { IsModelTold model.now }
+    ensures { IfOk result (λ e. e
+        ≡ where_with model.now.fields.now.schema.now model.now.fields.now.views.now model.now.fields.now.scope.now model.now.fields.now.columns.now (Some code.now)) }
+{
+    match code {
+        Code::Expr(_) => Ok(Some(model.code(alloc, Writer::Explore, code)?)),
+        _ => Ok(None),
+    }
+}
+
+fn access(
+    alloc: Global,
+    model: &ModelFields,
+    named: &Named,
+    filters: &[ExploreFilter],
+) -> Result<Items<(u32, Text)>, NoMemory>
+    requires told { IsModelTold model.now }
+    requires named { AreNamed model.now.fields.now.views.now model.now.fields.now.scope.now named.now }
+    ensures { IfOk result (λ access. access ≡ flat_map (access_in model.now.fields.now.views.now model.now.fields.now.scope.now) filters.now) }
+{
+    let mut access = Items::new(alloc);
+    for filter in filters {
+        add_access(alloc, model, named, filter, &mut access)?;
+    }
+    Ok(access)
+}
+
+fn add_access(
+    alloc: Global,
+    model: &ModelFields,
+    named: &Named,
+    filter: &ExploreFilter,
+    access: &mut Items<(u32, Text)>,
+) -> Result<(), NoMemory>
+    requires told { IsModelTold model.now }
+    requires named { AreNamed model.now.fields.now.views.now model.now.fields.now.scope.now named.now }
+    ensures { IfOk result (λ _. access.new ≡ access.old ++ access_in model.now.fields.now.views.now model.now.fields.now.scope.now filter.now) }
+{
+    match filter {
+        ExploreFilter::Access(declared) => add_declared(alloc, model, named, declared, access),
+        ExploreFilter::Always(_) | ExploreFilter::Where(_, _) => Ok(()),
+    }
+}
+
+fn add_declared(
+    alloc: Global,
+    model: &ModelFields,
+    named: &Named,
+    declared: &AccessFilter,
+    access: &mut Items<(u32, Text)>,
+) -> Result<(), NoMemory>
+    requires told { IsModelTold model.now }
+    requires named { AreNamed model.now.fields.now.views.now model.now.fields.now.scope.now named.now }
+    ensures { IfOk result (λ _. access.new ≡ access.old ++ access_with model.now.fields.now.views.now model.now.fields.now.scope.now declared.now.field declared.now.attribute) }
+{
+    match (&declared.field, &declared.attribute) {
+        (Some(name), Some(attribute)) => {
+            match dimension_number(alloc, model.fields, named, name.as_str())? {
+                None => Ok(()),
+                Some(number) => access.push((number, attribute.copy(alloc)?)),
+            }
+        }
+        _ => Ok(()),
+    }
+}
+
+fn rollups(
+    alloc: Global,
+    model: &ModelFields,
+    named: &Named,
+    datagroups: &[Text],
+    rollups: &[AggregateTable],
+) -> Result<Items<Rollup>, NoMemory>
+    requires told { IsModelTold model.now }
+    requires named { AreNamed model.now.fields.now.views.now model.now.fields.now.scope.now named.now }
+    ensures { IfOk result (λ made. made ≡ map (rollup_with model.now.fields.now.views.now model.now.fields.now.scope.now (datagroup_number datagroups.now)) rollups.now) }
+{
+    let mut made = Items::new(alloc);
+    for rollup in rollups {
+        made.push(rollup_with(alloc, model, named, datagroups, rollup)?)?;
+    }
+    Ok(made)
+}
+
+fn rollup_with(
+    alloc: Global,
+    model: &ModelFields,
+    named: &Named,
+    datagroups: &[Text],
+    rollup: &AggregateTable,
+) -> Result<Rollup, NoMemory>
+    requires told { IsModelTold model.now }
+    requires named { AreNamed model.now.fields.now.views.now model.now.fields.now.scope.now named.now }
+    ensures { IfOk result (λ made. made ≡ rollup_with model.now.fields.now.views.now model.now.fields.now.scope.now (datagroup_number datagroups.now) rollup.now) }
+{
+    let fields = model.fields;
+    Ok(Rollup {
+        name: rollup.name.copy(alloc)?,
+        dims: numbers_of_dimensions(alloc, fields, named, rollup.dimensions.as_slice())?,
+        measures: numbers_of_measures(alloc, model, named, rollup.measures.as_slice())?,
+        filters: filters_named(alloc, fields, named, rollup.filters.as_slice())?,
+        datagroup: datagroup_number(datagroups, &rollup.datagroup)?,
+    })
+}
+
+// The numbers of the measures that some names mean.
+fn numbers_of_measures(
+    alloc: Global,
+    model: &ModelFields,
+    named: &Named,
+    names: &[Text],
+) -> Result<Items<u32>, NoMemory>
+    requires told { IsModelTold model.now }
+    requires named { AreNamed model.now.fields.now.views.now model.now.fields.now.scope.now named.now }
+    ensures { IfOk result (λ numbers. numbers ≡ flat_map (measure_numbers model.now.fields.now.views.now model.now.fields.now.scope.now) names.now) }
+{
+    let mut numbers = Items::new(alloc);
+    for name in names {
+        add_measure(model, named, name.as_str(), &mut numbers)?;
+    }
+    Ok(numbers)
+}
+
+fn add_measure(
+    model: &ModelFields,
+    named: &Named,
+    name: &str,
+    numbers: &mut Items<u32>,
+) -> Result<(), NoMemory>
+    requires told { IsModelTold model.now }
+    requires named { AreNamed model.now.fields.now.views.now model.now.fields.now.scope.now named.now }
+    ensures { IfOk result (λ _. numbers.new ≡ numbers.old ++ measure_numbers model.now.fields.now.views.now model.now.fields.now.scope.now name.now) }
+{
+    match measure_number(model.fields, named, name)? {
+        None => Ok(()),
+        Some(number) => numbers.push(number),
+    }
+}
+
+// The number of a datagroup's name, and 0 where there is none.
+fn datagroup_number(datagroups: &[Text], name: &Option<Text>) -> Result<u32, NoMemory>
+    ensures { IfOk result (λ n. n ≡ datagroup_number datagroups.now name.now) }
+{
+    match name {
+        None => Ok(0),
+        Some(name) => as_number(position_of(datagroups, name.as_str())),
+    }
+}
+
+pub(crate) fn position_of(datagroups: &[Text], name: &str) -> Option<usize>
+    ensures { result ≡ position (λ datagroup. is_same_text datagroup name.now) datagroups.now }
+{
+    datagroups
+        .iter()
+        .position(|datagroup| datagroup.as_str() == name)
+}
