@@ -9,11 +9,16 @@ cat >"$work/crates/timing/src/main.rt" <<'END'
 //! Times the binding of a query over a wide explore, or the reading of a body that is none, as the standard input says.
 #![tactic(auto)]
 
+ghost use Rattle.std.specs.Prelude.{◌≤◌, length};
+ghost use Rattle.std.specs.List.{AllByRecursion};
+
 mod model;
 
 use crate::model::{model, query, users};
 use lk_body::{QueryFault, read_query};
 use lk_query::bind;
+use lk_schema::Users;
+use lk_types::{Model, Query};
 use lk_val::{NoMemory, Text};
 use std::alloc::Global;
 use std::io;
@@ -27,12 +32,18 @@ fn bound(alloc: Global, times: u32) -> Result<u32, NoMemory> {
     let model = model(alloc)?;
     let users = users(alloc)?;
     let query = query(alloc)?;
+    bound_times(alloc, &model, &users, &query, times)
+}
+
+fn bound_times(alloc: Global, model: &Model, users: &Users, query: &Query, times: u32) -> Result<u32, NoMemory>
+    requires few { AllByRecursion (λ x. length x.joins ≤ 31) model.now.explores }
+{
     let name = Text::from_str(alloc, "wide")?;
-    let mut done = 0;
+    let mut done = 0u32;
     for _time in 0..times {
-        if let Ok(bound) = bind(alloc, &model, &users, &name, &name, &query, 0) {
+        if let Ok(bound) = bind(alloc, model, users, &name, &name, query, 0) {
             if bound.picks.len() == 64 {
-                done += 1;
+                done = done.saturating_add(1);
             }
         }
     }
