@@ -1,3 +1,4 @@
+pub mod MonthDayLaws
 pub mod DateLiteralLaws
 pub mod DateReadingLaws
 pub mod DateNumeralLaws

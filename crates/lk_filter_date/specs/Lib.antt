@@ -1,3 +1,4 @@
 pub mod DateTexts
 pub mod Dates
 pub mod DateReading
+pub mod MonthDays

@@ -1,10 +1,44 @@
-ghost use Rattle.std.specs.Prelude.{◌≡◌, ◌≤◌, ◌<◌, ◌+◌, IfOk};
-ghost use Rattle.lk_filter_date.specs.DateTexts.{separator, pair, numeral, each_from, numerals, four_times, fourths, month_form, in_year_form, leap_day_form, two_digits, some_digits, year_form, leap_form, date_form, count_form};
+ghost use Rattle.std.specs.Prelude.{◌≡◌, ◌≤◌, ◌<◌, ◌+◌, IfOk, false};
+ghost use Rattle.lk_filter_date.specs.DateTexts.{separator, pair, numeral, each_from, numerals, four_times, fourths, month_length, month_form, in_year_form, leap_day_form, two_digits, some_digits, year_form, leap_form, date_form, count_form};
+ghost use Rattle.lk_filter_date.specs.MonthDays.{AreMonthDays};
 
 use crate::written::month_length;
 use lk_grammar::Form;
 use lk_val::NoMemory;
 use std::alloc::Global;
+
+/// The days that a month may have, by how many there are: each form is made once and shared.
+#[derive(Drop)]
+struct MonthDays {
+    twenty_eight: Form,
+    thirty: Form,
+    thirty_one: Form,
+}
+
+impl MonthDays {
+    fn new(alloc: Global) -> Result<MonthDays, NoMemory>
+        ensures { IfOk result AreMonthDays }
+    {
+        Ok(MonthDays {
+            twenty_eight: numerals_from(alloc, 1, 28)?,
+            thirty: numerals_from(alloc, 1, 30)?,
+            thirty_one: numerals_from(alloc, 1, 31)?,
+        })
+    }
+
+    /// The days that a month of this number has in each year.
+    fn of(&self, alloc: Global, month: u8) -> Result<Form, NoMemory>
+        requires { AreMonthDays self.now }
+        ensures { IfOk result (λ form. form ≡ numerals (month_length false month)) }
+    {
+        match month_length(false, u64::from(month)) {
+            28 => self.twenty_eight.share(),
+            30 => self.thirty.share(),
+            31 => self.thirty_one.share(),
+            length => numerals_from(alloc, 1, length as u8),
+        }
+    }
+}
 
 /// The form of dates: a year, a month or a day that exists.
 #[tactic(auto, unfolding(crate::specs::DateTexts::date_form))]
@@ -33,7 +67,8 @@ pub(crate) fn count_form(alloc: Global) -> Result<Form, NoMemory>
 fn in_year_form(alloc: Global) -> Result<Form, NoMemory>
     ensures { IfOk result (λ form. form ≡ in_year_form) }
 {
-    Form::seq(alloc, separator(alloc)?, months_from(alloc, 1, 12)?)
+    let days = MonthDays::new(alloc)?;
+    Form::seq(alloc, separator(alloc)?, months_from(alloc, &days, 1, 12)?)
 }
 
 fn leap_day_form(alloc: Global) -> Result<Form, NoMemory>
@@ -45,23 +80,27 @@ fn leap_day_form(alloc: Global) -> Result<Form, NoMemory>
 }
 
 #[tactic(auto, using(crate::proofs::DateFormLaws::each_none, crate::proofs::DateFormLaws::each_some))]
-fn months_from(alloc: Global, first: u8, count: u8) -> Result<Form, NoMemory>
-    requires { first + count ≤ 100 }
+fn months_from(alloc: Global, days: &MonthDays, first: u8, count: u8) -> Result<Form, NoMemory>
+    requires days { AreMonthDays days.now }
+    requires bound { first + count ≤ 100 }
     ensures { IfOk result (λ form. form ≡ each_from month_form first count) }
 {
     if count == 0 {
         return Ok(Form::nothing());
     }
-    let others = months_from(alloc, first + 1, count - 1)?;
-    Form::either(alloc, month_form(alloc, first)?, others)
+    let others = months_from(alloc, days, first + 1, count - 1)?;
+    Form::either(alloc, month_form(alloc, days, first)?, others)
 }
 
-fn month_form(alloc: Global, month: u8) -> Result<Form, NoMemory>
-    requires { month < 100 }
+fn month_form(alloc: Global, days: &MonthDays, month: u8) -> Result<Form, NoMemory>
+    requires days { AreMonthDays days.now }
+    requires bound { month < 100 }
     ensures { IfOk result (λ form. form ≡ month_form month) }
 {
-    let days = numerals_from(alloc, 1, month_length(false, u64::from(month)) as u8)?;
-    let day = Form::optional(alloc, Form::seq(alloc, separator(alloc)?, days)?)?;
+    let day = Form::optional(
+        alloc,
+        Form::seq(alloc, separator(alloc)?, days.of(alloc, month)?)?,
+    )?;
     Form::seq(alloc, numeral(alloc, month)?, day)
 }
 

@@ -30,12 +30,14 @@ fn judge_dates_form(alloc: Global, text: &[u8]) -> Result<Option<usize>, NoMemor
 fn dates_form(alloc: Global) -> Result<Form, NoMemory>
     ensures { IfOk result (λ form. form ≡ dates_form) }
 {
-    let item = item_form(alloc)?;
-    let further = Form::seq(alloc, Form::word(alloc, b" ", b",")?, item_form(alloc)?)?;
+    let date = written_date(alloc)?;
+    let item = item_form(alloc, &date)?;
+    let further = Form::seq(alloc, Form::word(alloc, b" ", b",")?, item.share()?)?;
     listed(alloc, b" ", item, further)
 }
 
-fn item_form(alloc: Global) -> Result<Form, NoMemory>
+fn item_form(alloc: Global, date: &Form) -> Result<Form, NoMemory>
+    requires { date.now ≡ written_date }
     ensures { IfOk result (λ form. form ≡ item_form) }
 {
     let others = Form::either(
@@ -45,16 +47,17 @@ fn item_form(alloc: Global) -> Result<Form, NoMemory>
     )?;
     let others = Form::either(alloc, Form::word(alloc, b" ", b"today")?, others)?;
     let others = Form::either(alloc, current_form(alloc)?, others)?;
-    let others = Form::either(alloc, beside_form(alloc)?, others)?;
+    let others = Form::either(alloc, beside_form(alloc, date)?, others)?;
     let others = Form::either(alloc, counted_form(alloc)?, others)?;
-    Form::either(alloc, dated_form(alloc)?, others)
+    Form::either(alloc, dated_form(alloc, date)?, others)
 }
 
-fn dated_form(alloc: Global) -> Result<Form, NoMemory>
+fn dated_form(alloc: Global, date: &Form) -> Result<Form, NoMemory>
+    requires { date.now ≡ written_date }
     ensures { IfOk result (λ form. form ≡ dated_form) }
 {
-    let to = Form::seq(alloc, Form::word(alloc, b" ", b"to")?, written_date(alloc)?)?;
-    Form::seq(alloc, written_date(alloc)?, Form::optional(alloc, to)?)
+    let to = Form::seq(alloc, Form::word(alloc, b" ", b"to")?, date.share()?)?;
+    Form::seq(alloc, date.share()?, Form::optional(alloc, to)?)
 }
 
 fn counted_form(alloc: Global) -> Result<Form, NoMemory>
@@ -65,7 +68,8 @@ fn counted_form(alloc: Global) -> Result<Form, NoMemory>
     Form::seq(alloc, written_count(alloc)?, unit)
 }
 
-fn beside_form(alloc: Global) -> Result<Form, NoMemory>
+fn beside_form(alloc: Global, date: &Form) -> Result<Form, NoMemory>
+    requires { date.now ≡ written_date }
     ensures { IfOk result (λ form. form ≡ beside_form) }
 {
     let side = Form::either(
@@ -73,7 +77,7 @@ fn beside_form(alloc: Global) -> Result<Form, NoMemory>
         Form::word(alloc, b" ", b"before")?,
         Form::word(alloc, b" ", b"after")?,
     )?;
-    Form::seq(alloc, side, written_date(alloc)?)
+    Form::seq(alloc, side, date.share()?)
 }
 
 fn current_form(alloc: Global) -> Result<Form, NoMemory>
