@@ -73,7 +73,7 @@ some_kind : {A : Type 0} (p : A → Bool) (q : Bool) → ((k : A) → p k ≡ tr
 some_kind p q f [] h = absurd (false≢true h)
 some_kind p q f (k ∷ ks) h = elim (p k) as (λ b. p k ≡ b → (b || list_any p ks) ≡ true → q ≡ true) [ true ↦ λ pk _. f k pk | false ↦ λ _ later. some_kind p q f ks later ] refl h
 
-some_typed : (leaves : Leaves) (k : Kind) (e : Option Formula) → is_some_typed leaves k e ≡ true → is_condition_dated e ≡ true
+pub some_typed : (leaves : Leaves) (k : Kind) (e : Option Formula) → is_some_typed leaves k e ≡ true → is_condition_dated e ≡ true
 some_typed leaves k None h = refl
 some_typed leaves k (Some e) h = second (has_kind k (kinds_of leaves e)) (are_literals_dated e) h
 
@@ -81,14 +81,14 @@ some_settled : (leaves : Leaves) (default k : Kind) (e : Option Formula) → is_
 some_settled leaves default k None h = refl
 some_settled leaves default k (Some e) h = second (not (is_empty (kinds_of leaves e)) && is_same_kind k (settled_kind leaves default e)) (are_literals_dated e) h
 
-some_known : (leaves : Leaves) (e : Option Formula) → is_some_known leaves e ≡ true → is_condition_dated e ≡ true
+pub some_known : (leaves : Leaves) (e : Option Formula) → is_some_known leaves e ≡ true → is_condition_dated e ≡ true
 some_known leaves e h = some_kind (λ k. is_some_typed leaves k e) (is_condition_dated e) (λ k. some_typed leaves k e) (kind.Text ∷ kind.Number ∷ kind.Truth ∷ kind.Day ∷ kind.Moment ∷ []) h
 
-no_formula : (e : Option Formula) → is_no_formula e ≡ true → is_condition_dated e ≡ true
+pub no_formula : (e : Option Formula) → is_no_formula e ≡ true → is_condition_dated e ≡ true
 no_formula None h = refl
 no_formula (Some e) h = absurd (false≢true h)
 
-operands : (leaves : Leaves) (o : Op) (k : Kind) (v key : Option Formula) → has_operands leaves o k v key ≡ true → is_condition_dated v ≡ true
+pub operands : (leaves : Leaves) (o : Op) (k : Kind) (v key : Option Formula) → has_operands leaves o k v key ≡ true → is_condition_dated v ≡ true
 operands leaves op.Count k v key h = no_formula v (first (is_no_formula v) (is_no_formula key) h)
 operands leaves op.Number k v key h = no_formula v (first (is_no_formula v) (is_no_formula key) h)
 operands leaves op.CountDistinct k v key h = some_known leaves v (first (is_some_known leaves v) (is_no_formula key) h)
@@ -99,7 +99,7 @@ operands leaves op.Average k v key h = some_typed leaves kind.Number v (first (i
 operands leaves op.SumDistinct k v key h = some_typed leaves kind.Number v (first (is_some_typed leaves kind.Number v) (is_some_known leaves key) h)
 operands leaves op.AverageDistinct k v key h = some_typed leaves kind.Number v (first (is_some_typed leaves kind.Number v) (is_some_known leaves key) h)
 
-implied : {A : Type 0} (t u : A → Bool) → ((x : A) → t x ≡ true → u x ≡ true) → (xs : List A) → Every t xs → Every u xs
+pub implied : {A : Type 0} (t u : A → Bool) → ((x : A) → t x ≡ true → u x ≡ true) → (xs : List A) → Every t xs → Every u xs
 implied t u f [] h = refl
 implied t u f (x ∷ xs) h = both (u x) (list_all u xs) (f x (first (t x) (list_all t xs) h)) (implied t u f xs (second (t x) (list_all t xs) h))
 
@@ -111,10 +111,10 @@ shape-typed leaves (shape.Frame group frame) k e h =
     second (not (is_empty (kinds_of leaves e)) && is_same_kind base (settled_kind leaves kind.Moment e)) (are_literals_dated e)
     (second (is_time_kind base) (is_settled leaves kind.Moment base e) (first (is_time_kind base && is_settled leaves kind.Moment base e) _ h))
 
-field-typed : (leaves : Leaves) (f : Field) → is_typed_field leaves f ≡ true → are_literals_dated f.expr ≡ true
+pub field-typed : (leaves : Leaves) (f : Field) → is_typed_field leaves f ≡ true → are_literals_dated f.expr ≡ true
 field-typed leaves f h = shape-typed leaves f.shape f.kind f.expr (second (has_tiers f.shape) (has_shape_kind leaves f.shape f.kind f.expr) h)
 
-measure-typed : (leaves : Leaves) (n : Measure) → is_typed_measure leaves n ≡ true → is_condition_dated n.value ≡ true
+pub measure-typed : (leaves : Leaves) (n : Measure) → is_typed_measure leaves n ≡ true → is_condition_dated n.value ≡ true
 measure-typed leaves n h = operands leaves n.op n.kind n.value n.key (first (has_operands leaves n.op n.kind n.value n.key) _ (first (has_operands leaves n.op n.kind n.value n.key && has_own_kind n.op n.kind) _ h))
 
 explore-typed : (m : Model) (x : Explore) → is_typed_explore m x ≡ true → is_explore_dated x ≡ true

@@ -27,7 +27,8 @@ fn copy_finding(alloc: Global, found: &Finding) -> Result<Finding, NoMemory>
     })
 }
 
-fn copy_line(alloc: Global, line: &FaultLine) -> Result<FaultLine, NoMemory>
+/// Another line that is equal.
+pub fn copy_line(alloc: Global, line: &FaultLine) -> Result<FaultLine, NoMemory>
     ensures { IfOk result (λ copied. copied ≡ line.now) }
 {
     Ok(FaultLine {

@@ -12,7 +12,7 @@ mod scope_fields;
 mod scopes;
 
 pub use component::components;
-pub use end::{end_test, known_findings};
+pub use end::{copy_line, end_test, known_findings};
 pub use order::{parts_by_name, places_by_name};
 pub use readings::{is_relative, place_in, reading_of};
 pub use scope_fields::ScopeFields;
