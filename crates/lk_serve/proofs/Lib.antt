@@ -1,3 +1,4 @@
 pub mod Fronts
 pub mod FolderLaws
 pub mod AnswerLaws
+pub mod RunLaws

@@ -1,5 +1,5 @@
 -- The whole meaning of a run: what it writes and how it ends, by its words, its files and its input.
-use Rattle.std.specs.Prelude.{ℕ, nat_le, ◌&&◌, if◌then◌else◌, List, length, Option, Some, None, option_and_then}
+use Rattle.std.specs.Prelude.{◌≡◌, ℕ, IfSome, nat_le, ◌&&◌, if◌then◌else◌, List, length, Option, Some, None, option_and_then}
 use Rattle.std.specs.List.{list_any}
 use Rattle.lk_val.specs.Texts.{is_same_text}
 use Rattle.lk_io.specs.declared.files.File.{File}
@@ -10,7 +10,8 @@ use Rattle.lk_serve.specs.Asked.{fields_of}
 use Rattle.lk_serve.specs.Picked.{bound_by}
 use Rattle.lk_serve.specs.Projects.{project_of}
 use Rattle.lk_serve.specs.Replies.{usage_reply, faulty_reply, refused_reply, unknown_reply, answer_reply}
-use Rattle.lk_serve.specs.Words.{query_words}
+use Rattle.lk_serve.specs.Checks.{IsChecked}
+use Rattle.lk_serve.specs.Words.{Asked, asked_by, unknown, check, query}
 use Rattle.lk_serve.specs.declared.picked.Binding.{Binding}
 use Rattle.lk_serve.specs.declared.picked.Binding.TheVariants.{Picks, Unknown}
 use Rattle.lk_serve.specs.declared.replies.Reply.{Reply}
@@ -42,30 +43,25 @@ abbrev pub project_reply : Option Project → List ℕ → List ℕ → List ℕ
 project_reply None user explore input = faulty_reply
 project_reply (Some project) user explore input = query_reply project user explore (small_input input)
 
-abbrev pub words_reply : Option (List ℕ × List ℕ) → List File → List ℕ → Reply
-words_reply None files input = usage_reply
-words_reply (Some words) files input = project_reply (project_of files) words.0 words.1 input
+-- ---- the reply where less is told: it rests on nothing for wrong words, on the folder alone for `check` and for a folder
+-- ---- that is no project, and else on the input too
 
--- the reply to words over files and an input
-unfoldable pub reply_of : List (List ℕ) → List File → List ℕ → Reply
-reply_of words files input = words_reply (query_words words) files input
+abbrev pub over_project : Option Project → List ℕ → List ℕ → Option (List ℕ) → Option Reply
+over_project None user explore input = Some faulty_reply
+over_project (Some project) user explore None = None
+over_project (Some project) user explore (Some input) = Some (query_reply project user explore (small_input input))
 
--- ---- the reply where less is told: it rests on the folder only for words of the right form, and on the input only
--- ---- for a folder that is a project
+-- the reply to a query, where what it rests on is told
+abbrev pub query_over : Option (List File) → List ℕ → List ℕ → Option (List ℕ) → Option Reply
+query_over None user explore input = None
+query_over (Some files) user explore input = over_project (project_of files) user explore input
 
-abbrev pub reply_over_project : Option Project → List ℕ → List ℕ → Option (List ℕ) → Option Reply
-reply_over_project None user explore input = Some faulty_reply
-reply_over_project (Some project) user explore None = None
-reply_over_project (Some project) user explore (Some input) = Some (query_reply project user explore (small_input input))
+-- a reply to what the words ask for, as far as files and input are told
+abbrev pub IsReplyTo : Asked → Option (List File) → Option (List ℕ) → Reply → Type 0
+IsReplyTo unknown files input reply = reply ≡ usage_reply
+IsReplyTo check files input reply = IfSome files (λ told. IsChecked told reply)
+IsReplyTo (query user explore) files input reply = IfSome (query_over files user explore input) (λ known. reply ≡ known)
 
-abbrev pub reply_over_files : Option (List File) → List ℕ → List ℕ → Option (List ℕ) → Option Reply
-reply_over_files None user explore input = None
-reply_over_files (Some files) user explore input = reply_over_project (project_of files) user explore input
-
-abbrev pub reply_over : Option (List ℕ × List ℕ) → Option (List File) → Option (List ℕ) → Option Reply
-reply_over None files input = Some usage_reply
-reply_over (Some words) files input = reply_over_files files words.0 words.1 input
-
--- the reply to words, where what it rests on is told
-unfoldable pub known_reply : List (List ℕ) → Option (List File) → Option (List ℕ) → Option Reply
-known_reply words files input = reply_over (query_words words) files input
+-- a reply to words over files and an input, as far as these are told
+unfoldable pub IsReply : List (List ℕ) → Option (List File) → Option (List ℕ) → Reply → Type 0
+IsReply words files input reply = IsReplyTo (asked_by words) files input reply

@@ -29,6 +29,13 @@ ComesUnread Faulty = Unit {0}
 ComesUnread Done = ⊥
 ComesUnread Refused = ⊥
 
+-- a check ended: the project has no fault, or it has one
+abbrev pub IsTold : Status → Type 0
+IsTold Done = Unit {0}
+IsTold Faulty = Unit {0}
+IsTold Usage = ⊥
+IsTold Refused = ⊥
+
 -- a line and its end
 abbrev pub line : List ℕ → List ℕ
 line text = text ++ 10 ∷ []

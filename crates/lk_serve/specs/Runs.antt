@@ -1,6 +1,9 @@
 -- How a run ends, and what it leaves outside.
 use Rattle.std.specs.Prelude.{◌≡◌, ℕ, ◌≤◌, ◌==◌, ◌||◌, Bool, List, Option, IsTrue}
 use Rattle.std.specs.Io.KnownBytes.{Appends}
+use Rattle.lk_io.specs.Streams.{AppendsFront}
+use Rattle.lk_io.specs.declared.files.File.{File}
+use Rattle.lk_serve.specs.Outcomes.{IsReply}
 use Rattle.lk_serve.specs.Replies.{code_of}
 use Rattle.lk_serve.specs.declared.replies.Reply.{Reply}
 
@@ -34,3 +37,15 @@ pub record NeverFall (files files' input input' out out' : ℕ) : Type 0 where
   pub files_count : files ≤ files'
   pub input_count : input ≤ input'
   pub out_count : out ≤ out'
+
+-- some reply to the words went out whole, and the run ended with its status
+pub record HasWritten (words : List (List ℕ)) (files : Option (List File)) (input old new : Option (List ℕ)) (status : ℕ) : Type 0 where
+  pub reply : Reply
+  pub is_reply : IsReply words files input reply
+  pub written : IsWritten old new reply status
+
+-- a front of some reply to the words went out
+pub record HasBegun (words : List (List ℕ)) (files : Option (List File)) (input old new : Option (List ℕ)) : Type 0 where
+  pub reply : Reply
+  pub is_reply : IsReply words files input reply
+  pub begun : AppendsFront old new reply.body

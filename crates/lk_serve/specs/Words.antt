@@ -1,18 +1,45 @@
--- The words that the program was given.
-use Rattle.std.specs.Prelude.{ℕ, ◌==◌, Bool, false, if◌then◌else◌, List, [], ◌∷◌, Option, Some, None, codes}
+-- The words that the program was given, and what they ask for.
+use Rattle.std.specs.Prelude.{ℕ, ◌==◌, Bool, false, if◌then◌else◌, List, [], ◌∷◌, codes}
 use Rattle.std.specs.List.{list_any}
 use Rattle.lk_val.specs.Texts.{is_same_text}
+use Rattle.lk_serve.specs.declared.words.Command.{Command}
+use Rattle.lk_serve.specs.declared.words.Command.TheVariants as command
+
+-- what words ask for: nothing that is known, the folder's first fault, or the answer to a caller's query on an explore
+pub data Asked : Type 0 where
+  unknown : Asked
+  check : Asked
+  query : List ℕ → List ℕ → Asked
 
 abbrev pub has_dash : List ℕ → Bool
 has_dash [] = false
 has_dash (c ∷ cs) = c == 45
 
--- the caller and the explore
-abbrev pub query_of : List (List ℕ) → Option (List ℕ × List ℕ)
-query_of (command ∷ folder ∷ user ∷ explore ∷ []) =
-    if is_same_text command (codes "query") then Some (user, explore) else None
-query_of words = None
+-- `check DIR`, and `query DIR USER EXPLORE`
+abbrev pub plain_words : List (List ℕ) → Asked
+plain_words (word ∷ folder ∷ []) = if is_same_text word (codes "check") then check else unknown
+plain_words (word ∷ folder ∷ user ∷ explore ∷ []) =
+    if is_same_text word (codes "query") then query user explore else unknown
+plain_words words = unknown
 
--- the caller and the explore of `query DIR USER EXPLORE`, where no word begins with `-`
-abbrev pub query_words : List (List ℕ) → Option (List ℕ × List ℕ)
-query_words words = if list_any has_dash words then None else query_of words
+-- words of which one begins with `-` ask for nothing that is known
+abbrev pub asked_by : List (List ℕ) → Asked
+asked_by words = if list_any has_dash words then unknown else plain_words words
+
+-- what a command that was read asks for
+abbrev pub meaning : Command → Asked
+meaning command.Unknown = unknown
+meaning command.Check = check
+meaning (command.Query user explore) = query user.now explore.now
+
+-- nothing of the input is asked for
+abbrev pub IsUnasked : Asked → Type 0
+IsUnasked unknown = Unit {0}
+IsUnasked check = Unit {0}
+IsUnasked (query user explore) = ⊥
+
+-- a query is asked for
+abbrev pub IsQuery : Asked → Type 0
+IsQuery unknown = ⊥
+IsQuery check = ⊥
+IsQuery (query user explore) = Unit {0}

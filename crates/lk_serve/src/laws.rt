@@ -1,10 +1,14 @@
 ghost use Rattle.std.specs.Prelude.{◌≡◌, ℕ, List, Some};
 ghost use Rattle.lk_io.specs.declared.files.File.{File};
-ghost use Rattle.lk_serve.specs.Outcomes.{known_reply, reply_of};
+ghost use Rattle.lk_serve.specs.Outcomes.{IsReply, project_reply};
+ghost use Rattle.lk_serve.specs.Projects.{project_of};
+ghost use Rattle.lk_serve.specs.Words.{asked_by, query};
+ghost use Rattle.lk_serve.specs.declared.replies.Reply.{Reply};
 
-/// Where the files and the input are told, the reply is known, and it is the reply to the words over them. A law: it
-/// computes nothing.
-pub fn replies_are_known()
-    ensures { (words : List (List ℕ)) (files : List File) (input : List ℕ)
-        → known_reply words (Some files) (Some input) ≡ Some (reply_of words files input) }
+/// Where the files and the input are told, there is one reply to a query: that of its caller, explore and input on the project
+/// that the files are. A law: it computes nothing.
+pub fn query_replies_are_known()
+    ensures { (words : List (List ℕ)) (files : List File) (input user explore : List ℕ) (reply : Reply)
+        → asked_by words ≡ query user explore → IsReply words (Some files) (Some input) reply
+        → reply ≡ project_reply (project_of files) user explore input }
 {}

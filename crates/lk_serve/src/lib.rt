@@ -1,8 +1,9 @@
-//! The top call: words, a folder's files and an input come in, and the reply to a query goes out.
+//! The top call: words, a folder's files and an input come in, and the reply to a query or a check goes out.
 #![tactic(auto)]
 
 mod asked;
 mod body;
+mod checking;
 mod folder;
 mod laws;
 mod picked;
@@ -11,5 +12,5 @@ mod serve;
 mod stops;
 mod words;
 
-pub use laws::replies_are_known;
+pub use laws::query_replies_are_known;
 pub use serve::run;

@@ -1,22 +1,23 @@
 ghost use Rattle.std.specs.Prelude.{◌≡◌, ◌∷◌, ◌++◌, [], IfOk, OnOk, map, codes};
 ghost use Rattle.json.specs.Print.{quoted};
 ghost use Rattle.lk_csv.specs.Records.{record_text, records_text};
+ghost use Rattle.lk_serve.specs.Checks.{fault_reply, ok_reply};
 ghost use Rattle.lk_serve.specs.declared.replies.Status.{Status};
 ghost use Rattle.lk_serve.specs.Replies.{code_of, line, usage_reply, faulty_reply, refused_reply, unknown_reply, table_reply, table_text, completeness, plain_text};
 
 use lk_csv::write_record;
 use lk_plain::Table;
 use lk_types::{Shape, print_cell};
-use lk_val::{Bytes, Cell, Items, NoMemory, Text};
+use lk_val::{Bytes, Cell, FaultLine, Items, NoMemory, Text};
 use serde_json::json;
 use std::alloc::Global;
 
 /// How a run ends that nothing from outside has stopped.
 #[derive(Clone, Copy, Debug, PartialEq, Eq)]
 pub enum Status {
-    /// The query is answered.
+    /// The query is answered, or the project has no fault.
     Done,
-    /// The folder is no project.
+    /// The folder is no project, or its project has a fault.
     Faulty,
     /// The words have no known form.
     Usage,
@@ -61,6 +62,24 @@ pub fn faulty(alloc: Global) -> Result<Reply, NoMemory>
     ensures { IfOk result (λ reply. reply ≡ faulty_reply) }
 {
     line_reply(alloc, b"Z1 - 0 - -", Status::Faulty)
+}
+
+/// The line on a project without a fault.
+pub fn no_fault(alloc: Global) -> Result<Reply, NoMemory>
+    ensures { IfOk result (λ reply. reply ≡ ok_reply) }
+{
+    line_reply(alloc, b"ok", Status::Done)
+}
+
+/// The line of a project's first fault.
+pub fn fault_found(alloc: Global, fault: &FaultLine) -> Result<Reply, NoMemory>
+    ensures { IfOk result (λ reply. reply ≡ fault_reply fault.now) }
+{
+    let line = fault.print(alloc)?;
+    Ok(Reply {
+        body: Bytes::from_slice(alloc, line.as_bytes())?,
+        status: Status::Faulty,
+    })
 }
 
 /// The refusal of a caller, an explore or a query whose form is not read (Z2).

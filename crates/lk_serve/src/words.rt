@@ -1,29 +1,45 @@
-ghost use Rattle.std.specs.Prelude.{◌≡◌, option_map};
+ghost use Rattle.std.specs.Prelude.{◌≡◌};
 ghost use Rattle.std.specs.List.{list_any};
-ghost use Rattle.lk_serve.specs.Words.{query_words, has_dash};
+ghost use Rattle.lk_serve.specs.Words.{asked_by, has_dash, meaning, plain_words};
 
 use lk_val::Text;
 
-/// The words of the command `query`, after the folder.
+/// What the words of the command line ask for, after the folder.
 #[derive(Drop)]
-pub struct QueryWords<'a> {
-    pub user: &'a Text,
-    pub explore: &'a Text,
+pub enum Command<'a> {
+    /// None of the known commands.
+    Unknown,
+    /// The first fault of the folder's project.
+    Check,
+    /// The answer to a query of this caller on this explore.
+    Query(&'a Text, &'a Text),
 }
 
-/// The caller and the explore of the words `query DIR USER EXPLORE`, of which none begins with `-`.
-pub fn read_words<'a>(words: &'a [Text]) -> Option<QueryWords<'a>>
-    ensures { option_map (λ w. (w.user.now, w.explore.now)) result ≡ query_words words.now }
+/// The command that the words are: `check DIR` or `query DIR USER EXPLORE`, of which no word begins with `-`.
+pub fn read_words<'a>(words: &'a [Text]) -> Command<'a>
+    ensures { meaning result ≡ asked_by words.now }
 {
-    if words.iter().any(|word| has_dash(word.as_bytes())) {
-        return None;
+    if have_dash(words) {
+        return Command::Unknown;
     }
+    plain_words(words)
+}
+
+fn have_dash(words: &[Text]) -> bool
+    ensures { result ≡ list_any has_dash words.now }
+{
+    words.iter().any(|word| has_dash(word.as_bytes()))
+}
+
+fn plain_words<'a>(words: &'a [Text]) -> Command<'a>
+    ensures { meaning result ≡ plain_words words.now }
+{
     match words {
-        [command, _, user, explore] if command.as_str() == "query" => Some(QueryWords {
-            user,
-            explore,
-        }),
-        _ => None,
+        [command, _] if command.as_str() == "check" => Command::Check,
+        [command, _, user, explore] if command.as_str() == "query" => {
+            Command::Query(user, explore)
+        }
+        _ => Command::Unknown,
     }
 }
 
