@@ -1,0 +1,3 @@
+pub mod OneObject
+pub mod OneExplore
+pub mod OneProject

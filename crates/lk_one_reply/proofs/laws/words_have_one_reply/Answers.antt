@@ -1,0 +1,8 @@
+use Rattle.lk_one_reply.proofs.OneProject.{one_load, one_reply}
+use Rattle.lk_one_reply.proofs.laws.words_have_one_reply.Goals as goal
+
+pub returns-clause-loads : goal.returns-clause-loads
+returns-clause-loads c = one_load c.objects_say_one_thing.ensures
+
+pub returns-clause-replies : goal.returns-clause-replies
+returns-clause-replies c = one_reply c.objects_say_one_thing.ensures

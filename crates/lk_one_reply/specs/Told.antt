@@ -1,0 +1,12 @@
+-- What a load answers of the files' content.
+use Rattle.std.specs.Prelude.{Result, Ok, Err}
+use Rattle.lk_include.specs.declared.project.ProjectFault.{ProjectFault}
+use Rattle.lk_include.specs.declared.project.ProjectFault.TheVariants.{Model, Failed, NoMemory}
+use Rattle.lk_resolve.specs.declared.loading.Loaded.{Loaded}
+
+-- a model with users, or a fault of the project: neither want of memory nor a failure of the files
+abbrev pub IsTold : Result Loaded ProjectFault → Type 0
+IsTold (Ok loaded) = Unit {0}
+IsTold (Err (Model line)) = Unit {0}
+IsTold (Err Failed) = ⊥
+IsTold (Err NoMemory) = ⊥
