@@ -1,0 +1,11 @@
+pub mod JoiningLaws
+pub mod TestLaws
+pub mod DayLaws
+pub mod FilterLaws
+pub mod FieldLaws
+pub mod LiteralLaws
+pub mod TierLaws
+pub mod ResolvedLaws
+pub mod ConditionSteps
+pub mod PlanLaws
+pub mod SourceLaws
