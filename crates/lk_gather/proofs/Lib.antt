@@ -1,0 +1,7 @@
+pub mod DimLaws
+pub mod MeasureLaws
+pub mod GatherLaws
+pub mod EndLaws
+pub mod AnswerLaws
+pub mod VisitLaws
+pub mod ResolvedLaws

@@ -1,0 +1,8 @@
+use Rattle.std.proofs.Common.{List, ◌++◌, drop}
+use Rattle.lk_gather.specs.Dims.{AreTests}
+use Rattle.lk_gather.specs.declared.dims.FieldTest.{FieldTest}
+use Rattle.lk_gather.proofs.dims.tests_of.Given as goal
+
+abbrev pub invariant-loop-filter : goal.invariant-loop-filter
+invariant-loop-filter l =
+    (more : List FieldTest) → AreTests l.explore (drop l.filter-index l.filters) more → AreTests l.explore l.filters (l.tests ++ more)

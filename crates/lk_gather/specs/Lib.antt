@@ -1,0 +1,4 @@
+pub mod Asked
+pub mod Dims
+pub mod Gathers
+pub mod Measures

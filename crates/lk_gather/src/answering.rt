@@ -1,0 +1,108 @@
+ghost use Rattle.std.specs.Prelude.{◌≡◌, ◌+◌, ℕ, IfErr, IfOk, List, filter, length, slice_index, true};
+ghost use Rattle.lk_types.specs.declared.rows.Joined.{Joined};
+ghost use Rattle.lk_semantics.specs.Answers.{answer_of, answer_over, dims_of, measure_at, ops_of, query_components};
+ghost use Rattle.lk_semantics.specs.DatedRows.{are_joins_dated, are_sources_dated};
+ghost use Rattle.lk_semantics.specs.Rows.{visible_rows};
+ghost use Rattle.lk_exec.specs.Visits.{IsOver, IsWithin};
+ghost use Rattle.lk_gather.specs.Asked.{IsPlan, does_pass};
+ghost use Rattle.lk_gather.specs.Gathers.{HasGathered};
+ghost use Rattle.lk_gather.specs.Measures.{is_fine_explore};
+ghost use Rattle.lk_exec.specs.declared.visit.ExecFault.TheVariants.{Many};
+
+use crate::asked::{Asked, dims_of};
+use crate::gather::gather_rows;
+use lk_agg::{Acc, AccShape, AggFault, given_rows_are_regular};
+use lk_exec::ExecFault;
+use lk_lines::{answer_lines, query_components};
+use lk_types::{Answer, Explore, Op, Pick, Plan, Sources};
+use lk_val::{Items, NoMemory};
+use std::alloc::Global;
+
+/// The answer to a query over tables, or `Many` (X1) where a cap is given and more rows are visible. It goes once over the
+/// visible rows and keeps none of them: the groups with what each keeps for its measures, and then their lines. (lookd)
+pub fn answer(
+    alloc: Global,
+    explore: &Explore,
+    sources: &Sources,
+    plan: &Plan,
+    cap: Option<u64>,
+) -> Result<Answer, ExecFault>
+    requires parts { length explore.now.parts ≡ length explore.now.joins + 1 }
+    requires explore { is_fine_explore explore.now ≡ true }
+    requires conditions { are_joins_dated explore.now ≡ true }
+    requires tables { are_sources_dated sources.now ≡ true }
+    requires plan { IsPlan explore.now sources.now plan.now }
+    ensures answer { IfOk result (λ answer. answer ≡ answer_of explore.now sources.now plan.now.bound) }
+    ensures within { IfOk result (λ answer. IsWithin cap (visible_rows explore.now sources.now plan.now.bound)) }
+    ensures many { IfErr result (λ fault. fault ≡ Many → IsOver cap (visible_rows explore.now sources.now plan.now.bound)) }
+{
+    let components = query_components(alloc, explore, &plan.bound)?;
+    let shape = AccShape {
+        dims: dims_count(alloc, plan.bound.picks.as_slice())?,
+        ops: ops_of(alloc, explore, components.as_slice())?,
+    };
+    let asked = Asked::new(alloc, explore, plan, components.as_slice())?;
+    match gather_rows(alloc, sources, cap, &asked, Acc::new(alloc, shape)?) {
+        Err(fault) => Err(fault),
+        Ok(acc) => finish(alloc, explore, plan, components.as_slice(), acc),
+    }
+}
+
+// The answer from the groups of the passing rows.
+fn finish(
+    alloc: Global,
+    explore: &Explore,
+    plan: &Plan,
+    components: &[u32],
+    acc: Acc,
+) -> Result<Answer, ExecFault>
+    requires { components.now ≡ query_components explore.now plan.now.bound }
+    ensures answer { (count : ℕ) (seen : List Joined) → HasGathered explore.now plan.now acc count seen
+        → IfOk result (λ answer. answer ≡ answer_over explore.now plan.now.bound (filter (does_pass plan.now) seen)) }
+    ensures many { IfErr result (λ fault. fault ≡ Many → ⊥) }
+{
+    given_rows_are_regular();
+    match acc.finish() {
+        Ok(groups) => Ok(answer_lines(alloc, explore, &plan.bound, groups)?),
+        Err(AggFault::Conflict { measure, key }) => Ok(Answer::Duplicate(
+            number_at(components, measure),
+            key,
+        )),
+        Err(AggFault::NoMemory) => Err(ExecFault::NoMemory),
+    }
+}
+
+// The number at a place, and 0 past the last.
+fn number_at(numbers: &[u32], place: u32) -> u32
+    ensures { result ≡ slice_index numbers.now place }
+{
+    match numbers.get(place as usize) {
+        Some(number) => *number,
+        None => 0,
+    }
+}
+
+fn dims_count(alloc: Global, picks: &[Pick]) -> Result<u32, NoMemory>
+    ensures { IfOk result (λ count. count ≡ length (dims_of picks.now)) }
+{
+    u32::try_from(dims_of(alloc, picks)?.len()).map_err(|_| NoMemory)
+}
+
+fn ops_of(alloc: Global, explore: &Explore, components: &[u32]) -> Result<Items<Op>, NoMemory>
+    ensures { IfOk result (λ ops. ops ≡ ops_of explore.now components.now) }
+{
+    let mut ops = Items::new(alloc);
+    for number in components {
+        ops.push(op_at(explore, *number))?;
+    }
+    Ok(ops)
+}
+
+fn op_at(explore: &Explore, number: u32) -> Op
+    ensures { result ≡ (measure_at explore.now number).op }
+{
+    match explore.measures.as_slice().get(number as usize) {
+        Some(measure) => measure.op,
+        None => Op::Count,
+    }
+}
