@@ -1,0 +1,103 @@
+ghost use Rattle.std.specs.Prelude.{◌≡◌, IfOk, length, nat_lt, true};
+ghost use Rattle.lk_val.specs.Memory.{IsUnlessMemory, UnlessMemory};
+ghost use Rattle.lk_types.specs.Dates.{IsMomentInYears};
+ghost use Rattle.lk_semantics.specs.Answers.{measure_at};
+ghost use Rattle.lk_semantics.specs.Derived.{explore_at};
+ghost use Rattle.lk_semantics.specs.Resolved.{IsInModel, IsResolved};
+ghost use Rattle.lk_ask.specs.Asks.{HasTables, IsAsked, is_no_memory, told_by, told_over};
+
+use crate::fault::{AskFault, refused};
+use crate::told::Told;
+use lk_exec::ExecFault;
+use lk_gather::{answer, resolved_explores_are_fine};
+use lk_plan::{compile, conditions_are_dated, joined_rows_meet_conditions};
+use lk_query::{bind_body, bound_queries_are_in_their_model, resolved_models_have_few_joins};
+use lk_schema::Users;
+use lk_types::{Answer, Bound, Explore, Model, Sources};
+use lk_val::{NoMemory, Text};
+use std::alloc::Global;
+
+// The most visible rows that a query goes over.
+const MOST_ROWS: u64 = 1_000_000;
+
+/// What a caller's body over an explore is told over the tables of a resolved model, or its first refusal: those of its
+/// binding (Q2, Q1, Q3, Q8, Q4, Q5, Q6, Q7), then more than 1,000,000 visible rows (Q10), then two values of a measure
+/// for one key (Q9). `now` counts seconds from 1970-01-01 00:00:00 UTC, and `sources` are the stored tables with the rows
+/// of the derived ones. (lookd)
+pub fn ask(
+    alloc: Global,
+    m: &Model,
+    users: &Users,
+    sources: &Sources,
+    user: &Text,
+    explore: &Text,
+    body: &[u8],
+    now: i64,
+) -> Result<Told, AskFault>
+    requires model { IsResolved m.now }
+    requires moment { IsMomentInYears now }
+    requires tables { HasTables m.now sources.now }
+    ensures { UnlessMemory is_no_memory result (IsAsked m.now users.now sources.now user.now explore.now body.now now) }
+{
+    resolved_models_have_few_joins();
+    match bind_body(alloc, m, users, user, explore, body, now) {
+        Err(fault) => Err(refused(fault)),
+        Ok(bound) => {
+            bound_queries_are_in_their_model();
+            answer_bound(alloc, m, sources, bound)
+        }
+    }
+}
+
+fn answer_bound(alloc: Global, m: &Model, sources: &Sources, bound: Bound) -> Result<Told, AskFault>
+    requires model { IsResolved m.now }
+    requires bound { IsInModel m.now bound }
+    requires tables { HasTables m.now sources.now }
+    ensures { IsUnlessMemory is_no_memory result (told_over (explore_at m.now bound.explore) sources.now bound) }
+{
+    resolved_explores_are_fine();
+    joined_rows_meet_conditions();
+    conditions_are_dated();
+    let plan = compile(alloc, m, &bound)?;
+    let x = explore_of(m, bound.explore);
+    match answer(alloc, x, sources, &plan, Some(MOST_ROWS)) {
+        Err(ExecFault::Many) => Err(AskFault::Q10),
+        Err(ExecFault::NoMemory) => Err(AskFault::NoMemory),
+        Ok(answer) => told_by(alloc, x, bound, answer),
+    }
+}
+
+// The explore of a number.
+fn explore_of(m: &Model, number: u32) -> &Explore
+    requires { nat_lt number (length m.now.explores) ≡ true }
+    ensures { result.now ≡ explore_at m.now number }
+{
+    &m.explores.as_slice()[number as usize]
+}
+
+// The lines of an answer, or the key that refuses it.
+fn told_by(alloc: Global, x: &Explore, bound: Bound, answer: Answer) -> Result<Told, AskFault>
+    ensures { IsUnlessMemory is_no_memory result (told_by x.now bound answer) }
+{
+    match answer {
+        Answer::Table(rows, complete) => Ok(Told {
+            bound,
+            rows,
+            complete,
+        }),
+        Answer::Duplicate(measure, key) => Err(AskFault::Q9 {
+            measure: measure_name(alloc, x, measure)?,
+            key,
+        }),
+    }
+}
+
+// The name of a measure; one that is not there has none.
+fn measure_name(alloc: Global, x: &Explore, measure: u32) -> Result<Text, NoMemory>
+    ensures { IfOk result (λ name. name ≡ (measure_at x.now measure).name) }
+{
+    match x.measures.as_slice().get(measure as usize) {
+        Some(measure) => measure.name.copy(alloc),
+        None => Ok(Text::new(alloc)),
+    }
+}

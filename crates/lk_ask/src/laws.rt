@@ -1,0 +1,28 @@
+ghost use Rattle.std.specs.Prelude.{◌≡◌, ℕ, ℤ, List, Ok, Result};
+ghost use Rattle.lk_types.specs.declared.bound.Bound.{Bound};
+ghost use Rattle.lk_types.specs.declared.model.Model.{Model};
+ghost use Rattle.lk_types.specs.declared.rows.Sources.{Sources};
+ghost use Rattle.lk_semantics.specs.Derived.{explore_at};
+ghost use Rattle.lk_semantics.specs.Rows.{visible_rows};
+ghost use Rattle.lk_schema.specs.declared.users.Users.{Users};
+ghost use Rattle.lk_ask.specs.Asks.{IsAsked, told_of};
+ghost use Rattle.lk_ask.specs.declared.fault.AskFault.{AskFault};
+ghost use Rattle.lk_ask.specs.declared.told.Told.{Told};
+
+use lk_query::bound_bodies_are_determined;
+
+/// A caller's body over tables is told one thing. A law: it computes nothing.
+pub fn bodies_are_told_one_thing()
+    ensures { (m : Model) (users : Users) (s : Sources) (user explore body : List ℕ) (now : ℤ) (r t : Result Told AskFault)
+        → IsAsked m users s user explore body now r → IsAsked m users s user explore body now t → r ≡ t }
+{
+    bound_bodies_are_determined();
+}
+
+/// What a query is told depends on the tables only through the rows that its caller sees: over tables in which these are
+/// the same it is told the same, its refusals among it. A law: it computes nothing.
+pub fn visible_rows_decide_what_is_told()
+    ensures { (m : Model) (s t : Sources) (b : Bound)
+        → visible_rows (explore_at m b.explore) s b ≡ visible_rows (explore_at m b.explore) t b
+        → told_of m s (Ok b) ≡ told_of m t (Ok b) }
+{}

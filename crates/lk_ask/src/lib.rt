@@ -1,0 +1,12 @@
+//! A caller's query over the tables of a resolved model: its answer, or its first refusal.
+#![tactic(auto)]
+
+mod asking;
+mod fault;
+mod laws;
+mod told;
+
+pub use asking::ask;
+pub use fault::AskFault;
+pub use laws::{bodies_are_told_one_thing, visible_rows_decide_what_is_told};
+pub use told::Told;
