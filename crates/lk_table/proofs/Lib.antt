@@ -1,0 +1,12 @@
+pub mod ColumnLaws
+pub mod RowLaws
+pub mod BlockLaws
+pub mod ReadLaws
+pub mod FitLaws
+pub mod KeyLaws
+pub mod VersionLaws
+pub mod TextLaws
+pub mod BackLaws
+pub mod CellBackLaws
+pub mod DayBackLaws
+pub mod MomentBackLaws

@@ -1,0 +1,7 @@
+use Rattle.std.proofs.Common.{◌≡◌, map, take}
+use Rattle.lk_val.specs.ValueRefs.{value_of_ref}
+use Rattle.lk_table.specs.BatchTexts.{fields_of_row}
+use Rattle.lk_table.proofs.text.printed.Given as goal
+
+abbrev pub invariant-loop-cell : goal.invariant-loop-cell
+invariant-loop-cell l = l.fields.items ≡ fields_of_row (map value_of_ref (take l.cell-index l.cells))

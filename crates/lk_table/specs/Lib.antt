@@ -1,0 +1,10 @@
+pub mod Contents
+pub mod Batches
+pub mod Loads
+pub mod Columns
+pub mod Faults
+pub mod Reading
+pub mod KeySets
+pub mod Versions
+pub mod BatchTexts
+pub mod Samples

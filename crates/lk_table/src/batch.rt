@@ -1,0 +1,177 @@
+ghost use Rattle.std.specs.Prelude.{◌≡◌, ◌+◌, ◌<◌, ◌^◌, IfOk, IfSome, length, map};
+ghost use Rattle.std.specs.List.{All, position};
+ghost use Rattle.csv.specs.Records.{fields_of};
+ghost use Rattle.lk_csv.specs.Reading.{IsReading, records_left};
+ghost use Rattle.lk_val.specs.Memory.{IsUnlessMemory};
+ghost use Rattle.lk_table.specs.Contents.{kind_of, lacks_key, row_at};
+ghost use Rattle.lk_table.specs.Batches.{batch_of, content_from, rows_behind, with_keys};
+ghost use Rattle.lk_table.specs.Reading.{record_added, rows_added, GivesRows};
+ghost use Rattle.lk_table.specs.Faults.{is_no_memory};
+ghost use Rattle.lk_table.specs.Versions.{IsShaped};
+
+use crate::block::Block;
+use crate::fault::BatchFault;
+use crate::header::{columns_at, read_places, sources_of};
+use crate::parse::{by_columns, read_values};
+use crate::records::{fields_in, reader_over, take_record};
+use csv::{ByteRecord, Reader};
+use lk_types::{ColumnDef, Kind, TableDef};
+use lk_val::{NoMemory, Text, ValueRef};
+use std::alloc::Global;
+use std::marker::Model;
+use std::sync::Arc;
+
+/// The rows of a batch that was read for a table, held in columns. Clauses see the rows. (lookd)
+#[derive(Drop)]
+pub struct Batch {
+    block: Arc<Block>,
+}
+
+impl Model for Batch {
+    ghost use Rattle.std.specs.Arc.{arc_value};
+    ghost use Rattle.lk_table.specs.Contents.{Content};
+
+    ghost Value = { Content };
+
+    ghost view = { λ batch. arc_value batch.block };
+}
+
+impl Batch {
+    /// The rows of the batch.
+    pub(crate) fn block(&self) -> &Arc<Block>
+        ensures { result.now.value ≡ self.now }
+    {
+        &self.block
+    }
+}
+
+/// The rows that a text of comma-separated fields holds for a table. Its first record names columns, each at most once
+/// and in any order; a column that is not named is null. Rows count from 1, and the header is row 0. A name or a field
+/// that doesn't read is L3, tested over the whole text before a key that is null (L5). (lookd; RFC 4180)
+pub fn read_batch(alloc: Global, def: &TableDef, csv: &[u8]) -> Result<Batch, BatchFault>
+    ensures value { IsUnlessMemory is_no_memory result (batch_of def.now csv.now) }
+    ensures shape { IfOk result (λ batch. IsShaped (map kind_of def.now.columns) def.now.key batch) }
+{
+    let mut reader = reader_over(alloc, csv);
+    let mut header = ByteRecord::new(alloc);
+    if !take_record(&mut reader, &mut header)? {
+        return Err(BatchFault::L3 {
+            row: 0,
+            column: Text::new(alloc),
+        });
+    }
+    let names = fields_in(alloc, &header)?;
+    let places = read_places(alloc, def.columns.as_slice(), &names)?;
+    let block = read_behind(alloc, def, &places, &mut reader)?;
+    Ok(Batch {
+        block: Arc::new(alloc, with_keys(block)?)?,
+    })
+}
+
+// The rows behind a header that names the columns at these places.
+fn read_behind(
+    alloc: Global,
+    def: &TableDef,
+    places: &[usize],
+    reader: &mut Reader<&[u8]>,
+) -> Result<Block, BatchFault>
+    requires places { All (λ place. place < length def.now.columns) places.now }
+    requires reading { IsReading reader.old }
+    ensures { IsUnlessMemory is_no_memory result
+        (content_from def.now (rows_behind def.now.columns (records_left reader.old) places.now)) }
+{
+    let columns = def.columns.as_slice();
+    let named = columns_at(alloc, columns, places)?;
+    let sources = sources_of(alloc, columns.len(), places)?;
+    let kinds = kinds_of(alloc, columns)?;
+    let block = Block::new(alloc, &kinds, def.key)?;
+    read_rows(alloc, &named, &sources, reader, block)
+}
+
+// The block with the rows of all the reader's records.
+fn read_rows(
+    alloc: Global,
+    named: &[&ColumnDef],
+    sources: &[Option<usize>],
+    reader: &mut Reader<&[u8]>,
+    mut block: Block,
+) -> Result<Block, BatchFault>
+    requires reading { IsReading reader.old }
+    requires fit { GivesRows (map (λ column. column.now) named.now) block.kinds sources.now }
+    ensures { IsUnlessMemory is_no_memory result (rows_added (map (λ column. column.now) named.now) sources.now
+        block (records_left reader.old)) }
+{
+    let mut record = ByteRecord::new(alloc);
+    while take_record(reader, &mut record)? {
+        block = add_record(alloc, named, sources, &record, block)?;
+    }
+    Ok(block)
+}
+
+// The block with the row of one record more.
+fn add_record(
+    alloc: Global,
+    named: &[&ColumnDef],
+    sources: &[Option<usize>],
+    record: &ByteRecord,
+    block: Block,
+) -> Result<Block, BatchFault>
+    requires { GivesRows (map (λ column. column.now) named.now) block.kinds sources.now }
+    ensures { IsUnlessMemory is_no_memory result (record_added (map (λ column. column.now) named.now) sources.now
+        block (fields_of record.now)) }
+{
+    let Some(row) = block.len().checked_add(1) else {
+        return Err(BatchFault::NoMemory);
+    };
+    let fields = fields_in(alloc, record)?;
+    let values = read_values(alloc, row, named, &fields)?;
+    let cells = by_columns(alloc, sources, &values)?;
+    Ok(block.with_row(&cells)?)
+}
+
+/// The kinds of the columns.
+pub(crate) fn kinds_of(alloc: Global, columns: &[ColumnDef]) -> Result<Vec<Kind>, NoMemory>
+    ensures { IfOk result (λ kinds. kinds.items ≡ map kind_of columns.now) }
+{
+    let mut kinds = Vec::with_capacity(alloc, columns.len())?;
+    for column in columns {
+        kinds.push(column.kind)?;
+    }
+    Ok(kinds)
+}
+
+// The block, unless a row lacks its key.
+fn with_keys(block: Block) -> Result<Block, BatchFault>
+    ensures { result ≡ with_keys block }
+{
+    match null_row(&block) {
+        Some(row) => Err(BatchFault::L5(row + 1)),
+        None => Ok(block),
+    }
+}
+
+// The place of the first row that lacks its key.
+fn null_row(block: &Block) -> Option<u32>
+    ensures value { result ≡ position (lacks_key block.now.key) block.now.rows }
+    ensures small { IfSome result (λ row. row + 1 < 2 ^ 32) }
+{
+    for row in 0..block.len() {
+        if lacks_key(block, row) {
+            return Some(row);
+        }
+    }
+    None
+}
+
+fn lacks_key(block: &Block, row: u32) -> bool
+    requires { row < length block.now.rows }
+    ensures { result ≡ lacks_key block.now.key (row_at block.now.rows row) }
+{
+    match block.key() {
+        Some(column) => match block.cell(row, column) {
+            ValueRef::Null => true,
+            _ => false,
+        },
+        None => false,
+    }
+}

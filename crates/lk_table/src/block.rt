@@ -1,0 +1,189 @@
+ghost use Rattle.std.specs.Prelude.{◌≡◌, ◌<◌, ◌++◌, ◌∷◌, [], true, IfOk, OnOk, length, map};
+ghost use Rattle.std.specs.List.{All};
+ghost use Rattle.lk_val.specs.ValueRefs.{value_of_ref};
+ghost use Rattle.lk_table.specs.Contents.{cell_at, row_at, text_bytes, text_length};
+ghost use Rattle.lk_table.specs.Columns.{AreText, IsMarked, are_of_kinds, kind_in, lengths_added, pushed, values_in, with_row};
+
+use crate::cells::{cell_in, push_cell};
+use lk_region::{Column, Region};
+use lk_types::Kind;
+use lk_val::{Items, NoMemory, ValueRef};
+use std::alloc::Global;
+use std::marker::Model;
+
+/// Rows in columns, and the texts of their cells in one region. Clauses see the rows.
+#[derive(Drop)]
+pub(crate) struct Block {
+    region: Region,
+    columns: Vec<Column>,
+    key: Option<u32>,
+    count: u32,
+    // The bytes of the text cells.
+    text: u64,
+}
+
+impl Model for Block {
+    ghost use Rattle.std.specs.Prelude.{map};
+    ghost use Rattle.lk_table.specs.Contents.{Content};
+    ghost use Rattle.lk_table.specs.Columns.{IsHeld, kind_in, rows_in, values_in};
+
+    ghost Value = { Content };
+
+    ghost view = { λ block. record {
+      kinds = map kind_in block.columns.items;
+      key = block.key;
+      rows = rows_in block.count (map (values_in block.region) block.columns.items);
+    } };
+
+    ghost invariant = { λ block. IsHeld block.region block.columns.items block.count block.text };
+}
+
+impl Block {
+    /// No rows of columns of these kinds.
+    pub(crate) fn new(alloc: Global, kinds: &[Kind], key: Option<u32>) -> Result<Block, NoMemory>
+        ensures { IfOk result (λ block. block ≡ record { kinds = kinds.now; key = key; rows = [] }) }
+    {
+        let mut columns = Vec::with_capacity(alloc, kinds.len())?;
+        for kind in kinds {
+            columns.push(new_column(alloc, *kind))?;
+        }
+        Ok(Block {
+            region: Region::new(alloc),
+            columns,
+            key,
+            count: 0,
+            text: 0,
+        })
+    }
+
+    /// The block with one row more: a cell for each column, of its kind.
+    pub(crate) fn with_row(self, cells: &[ValueRef<'_>]) -> Result<Block, NoMemory>
+        requires { are_of_kinds self.kinds (map value_of_ref cells.now) ≡ true }
+        ensures { IfOk result (λ block. block ≡ with_row self (map value_of_ref cells.now)) }
+    {
+        let Block {
+            mut region,
+            mut columns,
+            key,
+            count,
+            text,
+        } = self;
+        let Some(count) = count.checked_add(1) else {
+            return Err(NoMemory);
+        };
+        let text = add_lengths(text, cells)?;
+        push_cells(&mut region, &mut columns, cells)?;
+        Ok(Block {
+            region,
+            columns,
+            key,
+            count,
+            text,
+        })
+    }
+
+    /// The number of the key column.
+    pub(crate) fn key(&self) -> Option<u32>
+        ensures { result ≡ self.now.key }
+    {
+        self.key
+    }
+
+    /// The number of rows.
+    pub(crate) fn len(&self) -> u32
+        ensures { result ≡ length self.now.rows }
+    {
+        self.count
+    }
+
+    /// The bytes of the text cells.
+    pub(crate) fn text(&self) -> u64
+        ensures { result ≡ text_bytes self.now.rows }
+    {
+        self.text
+    }
+
+    /// A row's cells by column, where they stand.
+    pub(crate) fn row(&self, alloc: Global, row: u32) -> Result<Vec<ValueRef<'_>>, NoMemory>
+        requires { row < length self.now.rows }
+        ensures cells { IfOk result (λ cells. map value_of_ref cells.items ≡ row_at self.now.rows row) }
+        ensures kinds { IfOk result (λ cells. are_of_kinds self.now.kinds (map value_of_ref cells.items) ≡ true) }
+    {
+        let mut cells = Vec::with_capacity(alloc, self.columns.len())?;
+        for column in &self.columns {
+            cells.push(cell_in(&self.region, column, row as usize))?;
+        }
+        Ok(cells)
+    }
+
+    /// A cell, where it stands; null where there is no such column.
+    pub(crate) fn cell(&self, row: u32, column: u32) -> ValueRef<'_>
+        requires { row < length self.now.rows }
+        ensures { value_of_ref result ≡ cell_at (row_at self.now.rows row) column }
+    {
+        let column = column as usize;
+        if column < self.columns.len() {
+            cell_in(&self.region, &self.columns[column], row as usize)
+        } else {
+            ValueRef::Null
+        }
+    }
+}
+
+// A column without cells.
+fn new_column(alloc: Global, kind: Kind) -> Column
+    ensures kind { kind_in result ≡ kind }
+    ensures empty { values_in [] result ≡ [] }
+    ensures marked { IsMarked 0 result }
+{
+    match kind {
+        Kind::Text => Column::Text(Items::new(alloc)),
+        Kind::Number => Column::Number(Items::new(alloc)),
+        Kind::Truth => Column::Truth(Items::new(alloc)),
+        Kind::Day => Column::Day(Items::new(alloc)),
+        Kind::Moment => Column::Moment(Items::new(alloc)),
+    }
+}
+
+// Adds a cell to each column, and their texts to the region.
+fn push_cells(
+    region: &mut Region,
+    columns: &mut Vec<Column>,
+    cells: &[ValueRef<'_>],
+) -> Result<(), NoMemory>
+    requires kinds { are_of_kinds (map kind_in columns.old.items) (map value_of_ref cells.now) ≡ true }
+    requires marked { All (IsMarked (length region.old)) columns.old.items }
+    requires texts { AreText region.old }
+    ensures values { OnOk result (map (values_in region.new) columns.new.items
+        ≡ pushed (map value_of_ref cells.now) (map (values_in region.old) columns.old.items)) }
+    ensures kinds { OnOk result (map kind_in columns.new.items ≡ map kind_in columns.old.items) }
+    ensures marked { OnOk result (All (IsMarked (length region.new)) columns.new.items) }
+    ensures texts { OnOk result (AreText region.new) }
+{
+    for i in 0..cells.len() {
+        push_cell(region, &mut columns[i], cells[i])?;
+    }
+    Ok(())
+}
+
+// The number of bytes, and those of the texts among some cells.
+fn add_lengths(mut text: u64, cells: &[ValueRef<'_>]) -> Result<u64, NoMemory>
+    ensures { IfOk result (λ sum. sum ≡ lengths_added text (map value_of_ref cells.now)) }
+{
+    for cell in cells {
+        match text.checked_add(text_length(*cell)) {
+            Some(sum) => text = sum,
+            None => return Err(NoMemory),
+        }
+    }
+    Ok(text)
+}
+
+fn text_length(cell: ValueRef<'_>) -> u64
+    ensures { result ≡ text_length (value_of_ref cell.entry) }
+{
+    match cell {
+        ValueRef::Text(text) => text.len() as u64,
+        _ => 0,
+    }
+}
