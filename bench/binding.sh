@@ -95,7 +95,9 @@ use lk_types::{Explore, Expr, Field, Kind, Model, Node, Origin, Part, Query, Sch
 use lk_val::{Items, NoMemory, Text, Value};
 use std::alloc::Global;
 
+// Names ascend with their numbers, as those of a resolved model do.
 fn name(alloc: Global, number: u32) -> Result<Text, NoMemory> {
+    let number = number.saturating_add(100_000);
     let view = number / 40;
     let text = format!(in alloc; "orders_by_view_{view}.dimension_{number}")?;
     Ok(Text::from_string(text))

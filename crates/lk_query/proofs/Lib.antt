@@ -7,6 +7,7 @@ pub mod KindLaws
 pub mod KindSteps
 pub mod MemoryLaws
 pub mod ModelLaws
+pub mod NameOrderLaws
 pub mod NumberKindLaws
 pub mod PlacedKindLaws
 pub mod ReadingLaws

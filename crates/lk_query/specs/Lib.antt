@@ -1,5 +1,6 @@
 pub mod Refusals
 pub mod Callers
+pub mod NameOrder
 pub mod Names
 pub mod Readings
 pub mod Bindings

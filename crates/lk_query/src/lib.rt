@@ -3,6 +3,7 @@
 
 mod binding;
 mod callers;
+mod field_names;
 mod filters;
 mod laws;
 mod measures;

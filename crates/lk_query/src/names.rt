@@ -9,8 +9,9 @@ ghost use Rattle.lk_semantics.specs.Rows.{field_at};
 ghost use Rattle.lk_body.specs.Faults.{is_no_memory};
 ghost use Rattle.lk_query.specs.Names.{limit_of, measure_named, named_sort, pick_kind, pick_named, picks_of, sorts_of};
 
+use crate::field_names::FieldNames;
 use lk_body::QueryFault;
-use lk_types::{Explore, Field, Kind, Measure, Pick, Sort};
+use lk_types::{Explore, Kind, Pick, Sort};
 use lk_val::{Items, NoMemory, Text};
 use std::alloc::Global;
 
@@ -33,9 +34,10 @@ pub(crate) fn picks_of(
 ) -> Result<Items<Pick>, QueryFault>
     ensures { IsUnlessMemory is_no_memory result (picks_of x.now names.now) }
 {
+    let known = FieldNames::of(x);
     let mut picks = Items::new(alloc);
     for name in names {
-        let Some(pick) = pick_named(x, name)? else {
+        let Some(pick) = pick_named(&known, name)? else {
             return Err(QueryFault::Q4(name.copy(alloc)?));
         };
         picks.push(pick)?;
@@ -44,34 +46,22 @@ pub(crate) fn picks_of(
 }
 
 /// The dimension of a name, or else the measure.
-pub(crate) fn pick_named(x: &Explore, name: &Text) -> Result<Option<Pick>, NoMemory>
-    ensures { IfOk result (λ pick. pick ≡ pick_named x.now name.now) }
+pub(crate) fn pick_named(known: &FieldNames, name: &Text) -> Result<Option<Pick>, NoMemory>
+    ensures { IfOk result (λ pick. pick ≡ pick_named known.now.x.now name.now) }
 {
-    match field_place(x.fields.as_slice(), name) {
+    match known.field_place(name) {
         Some(f) => Ok(Some(Pick::Dim(number_of(f)?))),
-        None => measure_named(x, name),
+        None => measure_named(known, name),
     }
 }
 
-fn measure_named(x: &Explore, name: &Text) -> Result<Option<Pick>, NoMemory>
-    ensures { IfOk result (λ pick. pick ≡ option_map Mea (measure_named x.now name.now)) }
+fn measure_named(known: &FieldNames, name: &Text) -> Result<Option<Pick>, NoMemory>
+    ensures { IfOk result (λ pick. pick ≡ option_map Mea (measure_named known.now.x.now name.now)) }
 {
-    match measure_place(x.measures.as_slice(), name) {
+    match known.measure_place(name) {
         Some(m) => Ok(Some(Pick::Mea(number_of(m)?))),
         None => Ok(None),
     }
-}
-
-fn field_place(fields: &[Field], name: &Text) -> Option<usize>
-    ensures { result ≡ position (λ f. is_same_text name.now f.name) fields.now }
-{
-    fields.iter().position(|field| *name == field.name)
-}
-
-fn measure_place(measures: &[Measure], name: &Text) -> Option<usize>
-    ensures { result ≡ position (λ m. is_same_text name.now m.name) measures.now }
-{
-    measures.iter().position(|measure| *name == measure.name)
 }
 
 /// The place of an item as its number. No list in memory is longer than 32 bits can say, so a later place is want of

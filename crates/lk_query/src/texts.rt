@@ -7,6 +7,7 @@ ghost use Rattle.lk_body.specs.Faults.{is_no_memory};
 ghost use Rattle.lk_query.specs.Refusals.{each_found};
 ghost use Rattle.lk_query.specs.Names.{by_name, filter_kind_of, filter_on, filters_of, goes_before, named_filter, put_in, unknown_filter};
 
+use crate::field_names::FieldNames;
 use crate::names::{pick_kind, pick_named};
 use lk_body::QueryFault;
 use lk_filter::FilterKind;
@@ -32,20 +33,20 @@ pub(crate) fn filters_of(
     ensures { IsUnlessMemory is_no_memory result (filters_of x.now filters.now) }
 {
     let filters = by_name(alloc, filters)?;
-    named_filters(alloc, x, filters.as_slice())
+    named_filters(alloc, &FieldNames::of(x), filters.as_slice())
 }
 
 fn named_filters(
     alloc: Global,
-    x: &Explore,
+    known: &FieldNames,
     filters: &[&(Text, Text)],
 ) -> Result<Items<FilterText>, QueryFault>
     ensures { IsUnlessMemory is_no_memory result
-        (each_found unknown_filter (named_filter x.now) (map (λ f. f.now) filters.now)) }
+        (each_found unknown_filter (named_filter known.now.x.now) (map (λ f. f.now) filters.now)) }
 {
     let mut texts = Items::new(alloc);
     for filter in filters {
-        let Some(text) = named_filter(alloc, x, filter)? else {
+        let Some(text) = named_filter(alloc, known, filter)? else {
             return Err(QueryFault::Q4(filter.0.copy(alloc)?));
         };
         texts.push(text)?;
@@ -55,15 +56,15 @@ fn named_filters(
 
 fn named_filter(
     alloc: Global,
-    x: &Explore,
+    known: &FieldNames,
     filter: &(Text, Text),
 ) -> Result<Option<FilterText>, NoMemory>
-    ensures { IfOk result (λ text. text ≡ named_filter x.now filter.now) }
+    ensures { IfOk result (λ text. text ≡ named_filter known.now.x.now filter.now) }
 {
     let (name, text) = filter;
-    match pick_named(x, name)? {
+    match pick_named(known, name)? {
         None => Ok(None),
-        Some(on) => Ok(Some(filter_on(alloc, x, on, name.as_str(), text)?)),
+        Some(on) => Ok(Some(filter_on(alloc, known.x, on, name.as_str(), text)?)),
     }
 }
 
