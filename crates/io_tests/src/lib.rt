@@ -1,7 +1,11 @@
-//! Readers and writers that fail, and a folder of the system.
+//! Readers and writers that fail, a folder of the system, and clocks.
 #![tactic(auto)]
 
 #[cfg(test)]
+mod clocks;
+#[cfg(test)]
 mod folder;
+#[cfg(test)]
+mod links;
 #[cfg(test)]
 mod streams;

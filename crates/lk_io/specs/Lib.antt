@@ -1,5 +1,7 @@
 pub mod Causes
 pub mod Folder
+pub mod Links
 pub mod Memory
+pub mod Moments
 pub mod Streams
 pub mod System

@@ -47,7 +47,7 @@ fn read_once<R: Read>(reader: &mut R, into: &mut [u8]) -> io::Result<usize>
     Err(io::Error::from(ErrorKind::Interrupted))
 }
 
-impl<R: Read> Source for InSource<R> {
+impl<R: Read + Send> Source for InSource<R> {
     ghost left = { λ source. R.remaining (reader_of source) };
 
     ghost faults = { λ source. read_faults source };

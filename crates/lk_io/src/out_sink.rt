@@ -84,7 +84,7 @@ fn send<W: Write>(writer: &mut W, bytes: &[u8]) -> io::Result<()>
     Ok(())
 }
 
-impl<W: Write> Sink for OutSink<W> {
+impl<W: Write + Send> Sink for OutSink<W> {
     ghost held = { λ sink. W.contents (writer_of sink) };
 
     ghost faults = { λ sink. write_faults sink };
