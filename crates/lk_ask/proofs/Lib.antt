@@ -1,1 +1,2 @@
 pub mod AskLaws
+pub mod ToldLaws

@@ -1,15 +1,17 @@
 ghost use Rattle.std.specs.Prelude.{◌≡◌, ℕ, ℤ, List, Ok, Result};
+ghost use Rattle.lk_types.specs.Dates.{IsMomentInYears};
 ghost use Rattle.lk_types.specs.declared.bound.Bound.{Bound};
 ghost use Rattle.lk_types.specs.declared.model.Model.{Model};
 ghost use Rattle.lk_types.specs.declared.rows.Sources.{Sources};
 ghost use Rattle.lk_semantics.specs.Derived.{explore_at};
+ghost use Rattle.lk_semantics.specs.Resolved.{IsInModel, IsResolved};
 ghost use Rattle.lk_semantics.specs.Rows.{visible_rows};
 ghost use Rattle.lk_schema.specs.declared.users.Users.{Users};
 ghost use Rattle.lk_ask.specs.Asks.{IsAsked, told_of};
 ghost use Rattle.lk_ask.specs.declared.fault.AskFault.{AskFault};
 ghost use Rattle.lk_ask.specs.declared.told.Told.{Told};
 
-use lk_query::bound_bodies_are_determined;
+use lk_query::{bound_bodies_are_determined, bound_queries_are_in_their_model};
 
 /// A caller's body over tables is told one thing. A law: it computes nothing.
 pub fn bodies_are_told_one_thing()
@@ -17,6 +19,14 @@ pub fn bodies_are_told_one_thing()
         → IsAsked m users s user explore body now r → IsAsked m users s user explore body now t → r ≡ t }
 {
     bound_bodies_are_determined();
+}
+
+/// What a query is told is told of a query of the model. A law: it computes nothing.
+pub fn told_queries_are_in_their_model()
+    ensures { (m : Model) (users : Users) (s : Sources) (user explore body : List ℕ) (now : ℤ) (told : Told)
+        → IsResolved m → IsMomentInYears now → IsAsked m users s user explore body now (Ok told) → IsInModel m told.bound }
+{
+    bound_queries_are_in_their_model();
 }
 
 /// What a query is told depends on the tables only through the rows that its caller sees: over tables in which these are

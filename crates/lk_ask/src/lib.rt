@@ -8,5 +8,7 @@ mod told;
 
 pub use asking::ask;
 pub use fault::AskFault;
-pub use laws::{bodies_are_told_one_thing, visible_rows_decide_what_is_told};
+pub use laws::{
+    bodies_are_told_one_thing, told_queries_are_in_their_model, visible_rows_decide_what_is_told,
+};
 pub use told::Told;
