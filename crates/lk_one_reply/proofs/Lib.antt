@@ -1,3 +1,4 @@
 pub mod OneObject
 pub mod OneExplore
 pub mod OneProject
+pub mod OneReply

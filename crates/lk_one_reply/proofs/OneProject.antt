@@ -1,6 +1,6 @@
--- A project says one thing, is loaded as one thing, and has one reply to words.
+-- A project says one thing and is loaded as one thing.
 use Rattle.std.proofs.Common.{◌≡◌, ◌∙◌, ℕ, List, [], ◌∷◌, refl, sym, ap, subst}
-use Rattle.std.specs.Prelude.{Option, Some, None, Result, Ok, Err, IfOk, IfSome, unwrap_or}
+use Rattle.std.specs.Prelude.{Option, Some, None, Result, Ok, Err, IfOk, unwrap_or}
 use Rattle.lk_val.specs.declared.fault.FaultLine.{FaultLine}
 use Rattle.lk_val.specs.declared.fault.ModelFault.{ModelFault}
 use Rattle.lk_val.specs.declared.fault.ModelFault.TheVariants.{Fault, NoMemory}
@@ -28,12 +28,6 @@ use Rattle.lk_resolve.specs.Loading.{AfterGathering, AfterMerging, AfterSchema, 
 use Rattle.lk_resolve.specs.Objects.{AreExplores, AreViews, HasObjects}
 use Rattle.lk_resolve.specs.Resolving.{HasModel, IsModelOf, first_fault}
 use Rattle.lk_resolve.specs.declared.loading.Loaded.{Loaded}
-use Rattle.lk_serve.specs.Checks.{IsChecked, IsToldBy}
-use Rattle.lk_serve.specs.Outcomes.{IsReply, IsReplyTo, over_project}
-use Rattle.lk_serve.specs.Projects.{project_of}
-use Rattle.lk_serve.specs.Words.{Asked, asked_by, unknown, check, query}
-use Rattle.lk_serve.specs.declared.replies.Reply.{Reply}
-use Rattle.lk_project.specs.declared.project.Project as plain
 use Rattle.lk_one_reply.specs.Told.{IsTold}
 use Rattle.lk_one_reply.proofs.OneExplore.{one_explore}
 use Rattle.lk_one_reply.proofs.OneObject.{OneCode, OneFilters, one_view}
@@ -154,39 +148,3 @@ module _ (one : OneDeclared) where
 
   pub one_load : (files : List File) (r s : Result Loaded ProjectFault) → IsTold r → IsTold s → IsLoadOf files r → IsLoadOf files s → r ≡ s
   one_load files r s r_told s_told h k = after_gathering (gathered files) r s r_told s_told h k
-
-  -- ---- replies
-
-  told_by : (r : Result Loaded ProjectFault) (a : Reply) → IsToldBy r a → IsTold r
-  told_by (Ok loaded) a h = tt
-  told_by (Err (project.Model line)) a h = tt
-  told_by (Err project.Failed) a h = h
-  told_by (Err project.NoMemory) a h = h
-
-  one_told : (r : Result Loaded ProjectFault) (a b : Reply) → IsToldBy r a → IsToldBy r b → a ≡ b
-  one_told (Ok loaded) a b h k = h ∙ sym k
-  one_told (Err (project.Model line)) a b h k = h ∙ sym k
-  one_told (Err project.Failed) a b h k = absurd h
-  one_told (Err project.NoMemory) a b h k = absurd h
-
-  one_checked : (files : List File) (a b : Reply) → IsChecked files a → IsChecked files b → a ≡ b
-  one_checked files a b h k =
-      let same : h.loaded ≡ k.loaded =
-      one_load files h.loaded k.loaded (told_by h.loaded a h.told) (told_by k.loaded b k.told) h.is_load k.is_load in
-      one_told k.loaded a b (subst (λ r. IsToldBy r a) same h.told) k.told
-
-  one_answered : (p : Option plain.Project) (user explore input : List ℕ) (a b : Reply)
-      → IfSome (over_project p user explore (Some input)) (λ known. a ≡ known) → IfSome (over_project p user explore (Some input)) (λ known. b ≡ known) → a ≡ b
-  one_answered None user explore input a b h k = h ∙ sym k
-  one_answered (Some p) user explore input a b h k = h ∙ sym k
-
-  one_by : (asked : Asked) (files : List File) (input : List ℕ) (a b : Reply)
-      → IsReplyTo asked (Some files) (Some input) a → IsReplyTo asked (Some files) (Some input) b → a ≡ b
-  one_by unknown files input a b h k = h ∙ sym k
-  one_by check files input a b h k = one_checked files a b h k
-  one_by (query user explore) files input a b h k = one_answered (project_of files) user explore input a b h k
-
-  pub one_reply : (words : List (List ℕ)) (files : List File) (input : List ℕ) (a b : Reply)
-      → IsReply words (Some files) (Some input) a → IsReply words (Some files) (Some input) b → a ≡ b
-  unfolding IsReply
-  one_reply words files input a b h k = one_by (asked_by words) files input a b h k

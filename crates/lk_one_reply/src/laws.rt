@@ -1,4 +1,4 @@
-ghost use Rattle.std.specs.Prelude.{◌≡◌, ℕ, List, Result, Some};
+ghost use Rattle.std.specs.Prelude.{◌≡◌, ℕ, ℤ, List, Result, Some};
 ghost use Rattle.lk_io.specs.declared.files.File.{File};
 ghost use Rattle.lk_include.specs.declared.project.ProjectFault.{ProjectFault};
 ghost use Rattle.lk_types.specs.declared.schema.Schema.{Schema};
@@ -11,6 +11,7 @@ ghost use Rattle.lk_serve.specs.Outcomes.{IsReply};
 ghost use Rattle.lk_serve.specs.declared.replies.Reply.{Reply};
 ghost use Rattle.lk_one_reply.specs.Told.{IsTold};
 
+use lk_ask::bodies_are_told_one_thing;
 use lk_written::texts_say_one_thing;
 
 /// The effective objects of a project say one thing. A law: it computes nothing.
@@ -21,13 +22,14 @@ pub fn objects_say_one_thing()
     texts_say_one_thing();
 }
 
-/// Where the files and the input are told, there is one reply to words, and what the files are loaded as, want of memory
+/// Where the files, the input and the next moment are told, there is one reply to words, and what the files are loaded as, want of memory
 /// and a failure aside, is one. A law: it computes nothing.
 pub fn words_have_one_reply()
     ensures loads { (files : List File) (r s : Result Loaded ProjectFault) → IsTold r → IsTold s → IsLoadOf files r → IsLoadOf files s
         → r ≡ s }
-    ensures replies { (words : List (List ℕ)) (files : List File) (input : List ℕ) (a b : Reply)
-        → IsReply words (Some files) (Some input) a → IsReply words (Some files) (Some input) b → a ≡ b }
+    ensures replies { (words : List (List ℕ)) (files : List File) (input : List ℕ) (now : ℤ) (a b : Reply)
+        → IsReply words (Some files) (Some input) (Some now) a → IsReply words (Some files) (Some input) (Some now) b → a ≡ b }
 {
     objects_say_one_thing();
+    bodies_are_told_one_thing();
 }

@@ -1,4 +1,1 @@
-pub mod Fronts
-pub mod FolderLaws
-pub mod AnswerLaws
 pub mod RunLaws

@@ -1,21 +1,12 @@
 -- The reply to `check`.
-use Rattle.std.specs.Prelude.{◌≡◌, List, Result, Ok, Err, codes}
-use Rattle.lk_val.specs.Faults.{fault_text}
-use Rattle.lk_val.specs.declared.fault.FaultLine.{FaultLine}
+use Rattle.std.specs.Prelude.{◌≡◌, List, Result, Ok, Err}
 use Rattle.lk_io.specs.declared.files.File.{File}
 use Rattle.lk_include.specs.declared.project.ProjectFault.{ProjectFault}
 use Rattle.lk_include.specs.declared.project.ProjectFault.TheVariants.{Model, Failed, NoMemory}
 use Rattle.lk_resolve.specs.Loading.{IsLoadOf}
 use Rattle.lk_resolve.specs.declared.loading.Loaded.{Loaded}
-use Rattle.lk_serve.specs.Replies.{line}
+use Rattle.lk_serve.specs.Replies.{fault_reply, ok_reply}
 use Rattle.lk_serve.specs.declared.replies.Reply.{Reply}
-use Rattle.lk_serve.specs.declared.replies.Status.TheVariants.{Done, Faulty}
-
-abbrev pub ok_reply : Reply
-ok_reply = record { body = line (codes "ok"); status = Done }
-
-abbrev pub fault_reply : FaultLine → Reply
-fault_reply fault = record { body = fault_text fault; status = Faulty }
 
 -- `ok` for a project that loads, and else the line of its first fault
 abbrev pub IsToldBy : Result Loaded ProjectFault → Reply → Type 0
@@ -28,4 +19,9 @@ IsToldBy (Err NoMemory) reply = ⊥
 pub record IsChecked (files : List File) (reply : Reply) : Type 0 where
   pub loaded : Result Loaded ProjectFault
   pub is_load : IsLoadOf files loaded
+  pub told : IsToldBy loaded reply
+
+-- the reply tells what some files load as
+pub record TellsSome (reply : Reply) : Type 0 where
+  pub loaded : Result Loaded ProjectFault
   pub told : IsToldBy loaded reply

@@ -1,8 +1,6 @@
 pub mod Checks
-pub mod Asked
 pub mod Outcomes
-pub mod Picked
-pub mod Projects
+pub mod Queries
 pub mod Replies
 pub mod Runs
 pub mod Stops

@@ -1,16 +1,13 @@
 -- What the program writes, and the status that it ends with.
-use Rattle.std.specs.Prelude.{ℕ, Bool, true, false, List, [], ◌∷◌, ◌++◌, map, codes}
-use Rattle.json.specs.Print.{quoted}
-use Rattle.lk_csv.specs.Records.{records_text}
-use Rattle.lk_types.specs.Printing.{cell_text, value_text}
-use Rattle.lk_types.specs.declared.answer.Answer.{Answer}
-use Rattle.lk_types.specs.declared.answer.Answer.TheVariants as answer
-use Rattle.lk_plain.specs.declared.explore.Explore.{Explore}
-use Rattle.lk_plain.specs.Rows.{measure_at}
-use Rattle.lk_val.specs.declared.value.Value.{Value}
-use Rattle.lk_types.specs.declared.explore.Shape.TheVariants as shape
-use Rattle.lk_val.specs.declared.cell.Cell.{Cell}
-use Rattle.lk_plain.specs.declared.query.Table.{Table}
+use Rattle.std.specs.Prelude.{ℕ, List, [], ◌∷◌, ◌++◌, codes}
+use Rattle.lk_val.specs.Faults.{fault_text}
+use Rattle.lk_val.specs.declared.fault.FaultLine.{FaultLine}
+use Rattle.lk_types.specs.declared.model.Model.{Model}
+use Rattle.lk_semantics.specs.Derived.{explore_at}
+use Rattle.lk_ask.specs.declared.fault.AskFault.{AskFault}
+use Rattle.lk_ask.specs.declared.told.Told.{Told}
+use Rattle.lk_reply.specs.Answers.{answer_text}
+use Rattle.lk_reply.specs.Refusals.{refusal_text}
 use Rattle.lk_serve.specs.declared.replies.Reply.{Reply}
 use Rattle.lk_serve.specs.declared.replies.Status.{Status}
 use Rattle.lk_serve.specs.declared.replies.Status.TheVariants.{Done, Faulty, Usage, Refused}
@@ -43,41 +40,24 @@ line text = text ++ 10 ∷ []
 abbrev pub usage_reply : Reply
 usage_reply = record { body = line (codes "usage: lookd query|check|sql|script|serve|gen .."); status = Usage }
 
--- the folder is no project of the first form
-abbrev pub faulty_reply : Reply
-faulty_reply = record { body = line (codes "Z1 - 0 - -"); status = Faulty }
+abbrev pub ok_reply : Reply
+ok_reply = record { body = line (codes "ok"); status = Done }
 
--- the caller, the explore or the query's form is wrong
-abbrev pub refused_reply : Reply
-refused_reply = record { body = line (codes "{\"error\":\"Z2\"}"); status = Refused }
+-- the line of a project's fault
+abbrev pub fault_reply : FaultLine → Reply
+fault_reply fault = record { body = fault_text fault; status = Faulty }
 
--- a name that is no field of the explore
-unfoldable pub unknown_reply : List ℕ → Reply
-unknown_reply name = record { body = line (codes "{\"error\":\"Q4\",\"field\":" ++ quoted name ++ codes "}"); status = Refused }
+-- no query is answered over the model
+abbrev pub unanswered_reply : Reply
+unanswered_reply = record { body = line (codes "Z1 - 0 - -"); status = Faulty }
 
-abbrev pub completeness : Bool → List ℕ
-completeness true = line (codes "# snapshot 0, complete")
-completeness false = line (codes "# snapshot 0, cut")
+-- the input is too long for a query's body
+abbrev pub long_reply : Reply
+long_reply = record { body = line (codes "{\"error\":\"H3\"}"); status = Refused }
 
--- a cell of a project of the first form, which has no tiers and no timeframes
-abbrev pub plain_text : Cell → List ℕ
-plain_text = cell_text shape.Plain
+abbrev pub refused_reply : AskFault → Reply
+refused_reply fault = record { body = line (refusal_text fault); status = Refused }
 
--- the names, a record for each line of the answer, and whether these are all (RFC 4180)
-unfoldable pub table_text : List (List ℕ) → Table → List ℕ
-table_text names table = records_text (names ∷ map (map plain_text) table.rows) ++ completeness table.complete
-
-abbrev pub table_reply : List (List ℕ) → Table → Reply
-table_reply names table = record { body = table_text names table; status = Done }
-
--- two values of a measure for one key refuse the query. No view without a primary key has them
-abbrev pub conflict_reply : Explore → ℕ → Value → Reply
-conflict_reply x measure key = record {
-  body = line (codes "{\"error\":\"Q9\",\"key\":" ++ quoted (value_text key) ++ codes ",\"measure\":" ++ quoted (measure_at x measure).name ++ codes "}");
-  status = Refused;
-}
-
--- the answer in CSV, or the conflict
-abbrev pub answer_reply : Explore → List (List ℕ) → Answer → Reply
-answer_reply x names (answer.Table rows complete) = table_reply names (record { rows = rows; complete = complete })
-answer_reply x names (answer.Duplicate measure key) = conflict_reply x measure key
+-- the answer over the tables of the opening, which is snapshot 0
+abbrev pub answer_reply : Model → Told → Reply
+answer_reply m told = record { body = answer_text (explore_at m told.bound.explore) told 0; status = Done }

@@ -1,8 +1,11 @@
 -- How a run ends, and what it leaves outside.
-use Rattle.std.specs.Prelude.{◌≡◌, ℕ, ◌≤◌, ◌==◌, ◌||◌, Bool, List, Option, IsTrue}
+use Rattle.std.specs.Prelude.{◌≡◌, ◌⊎◌, ℕ, ℤ, ◌≤◌, ◌==◌, ◌||◌, Bool, List, Option, IsTrue, slice_get}
+use Rattle.std.specs.Option.{option_and_then, option_map}
 use Rattle.std.specs.Io.KnownBytes.{Appends}
+use Rattle.lk_io.specs.Moments.{later}
 use Rattle.lk_io.specs.Streams.{AppendsFront}
 use Rattle.lk_io.specs.declared.files.File.{File}
+use Rattle.lk_serve.specs.Checks.{TellsSome}
 use Rattle.lk_serve.specs.Outcomes.{IsReply}
 use Rattle.lk_serve.specs.Replies.{code_of}
 use Rattle.lk_serve.specs.declared.replies.Reply.{Reply}
@@ -38,14 +41,28 @@ pub record NeverFall (files files' input input' out out' : ℕ) : Type 0 where
   pub input_count : input ≤ input'
   pub out_count : out ≤ out'
 
+-- the next moment of a clock that tells those to come
+abbrev pub next_moment : Option (List ℤ) → Option ℤ
+next_moment moments = option_and_then (λ told. slice_get told 0) moments
+
+-- the clock was asked once or not at all
+abbrev pub IsAskedOnce : Option (List ℤ) → Option (List ℤ) → Type 0
+IsAskedOnce old new = (new ≡ old) ⊎ (new ≡ option_map later old)
+
 -- some reply to the words went out whole, and the run ended with its status
-pub record HasWritten (words : List (List ℕ)) (files : Option (List File)) (input old new : Option (List ℕ)) (status : ℕ) : Type 0 where
+pub record HasWritten (words : List (List ℕ)) (files : Option (List File)) (input : Option (List ℕ)) (now : Option ℤ) (old new : Option (List ℕ)) (status : ℕ) : Type 0 where
   pub reply : Reply
-  pub is_reply : IsReply words files input reply
+  pub is_reply : IsReply words files input now reply
   pub written : IsWritten old new reply status
 
 -- a front of some reply to the words went out
-pub record HasBegun (words : List (List ℕ)) (files : Option (List File)) (input old new : Option (List ℕ)) : Type 0 where
+pub record HasBegun (words : List (List ℕ)) (files : Option (List File)) (input : Option (List ℕ)) (now : Option ℤ) (old new : Option (List ℕ)) : Type 0 where
   pub reply : Reply
-  pub is_reply : IsReply words files input reply
+  pub is_reply : IsReply words files input now reply
   pub begun : AppendsFront old new reply.body
+
+-- `ok` or the line of some fault went out whole, and the run ended with its status
+pub record HasWrittenCheck (old new : Option (List ℕ)) (status : ℕ) : Type 0 where
+  pub reply : Reply
+  pub tells : TellsSome reply
+  pub written : IsWritten old new reply status

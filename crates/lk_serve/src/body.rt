@@ -1,6 +1,6 @@
 ghost use Rattle.std.specs.Prelude.{◌≡◌, IfOk, IfSome, OnSome};
 ghost use Rattle.std.specs.Io.KnownBytes.{IsAtEnd};
-ghost use Rattle.lk_serve.specs.Outcomes.{small_input};
+ghost use Rattle.lk_serve.specs.Queries.{small_input};
 ghost use Rattle.lk_serve.specs.Stops.{HasStopCause, NeverStops};
 ghost use Rattle.lk_serve.specs.declared.stops.Stop.{Stop};
 

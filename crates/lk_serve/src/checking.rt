@@ -1,5 +1,5 @@
 ghost use Rattle.std.specs.Prelude.{◌≡◌, IfOk, IfSome};
-ghost use Rattle.lk_serve.specs.Checks.{IsChecked};
+ghost use Rattle.lk_serve.specs.Checks.{IsChecked, TellsSome};
 ghost use Rattle.lk_serve.specs.Replies.{IsTold};
 ghost use Rattle.lk_serve.specs.Stops.{HasStopCause, NeverStops};
 ghost use Rattle.lk_serve.specs.declared.stops.Stop.{Stop};
@@ -12,9 +12,10 @@ use lk_resolve::load;
 use std::alloc::Global;
 
 /// The reply to `check`: `ok` where the folder's files are a project without a fault, and else the line of its first fault.
-#[tactic(auto, using(crate::proofs::RunLaws::is_checked))]
+#[tactic(auto, using(crate::proofs::RunLaws::is_checked, crate::proofs::RunLaws::tells_some))]
 pub fn check<F: Files>(alloc: Global, files: &mut F) -> Result<Reply, Stop>
     ensures reply { IfOk result (λ reply. IfSome (F.told files.old) (λ told. IsChecked told reply)) }
+    ensures told { IfOk result TellsSome }
     ensures status { IfOk result (λ reply. IsTold reply.status) }
     ensures same { F.told files.new ≡ F.told files.old }
     ensures cause { HasStopCause Stop.Files (F.faults files.old) (F.faults files.new) result }

@@ -1,16 +1,12 @@
-//! The top call: words, a folder's files and an input come in, and the reply to a query or a check goes out.
+//! The top call: words, a folder's files, an input and a clock come in, and the reply to a query or a check goes out.
 #![tactic(auto)]
 
-mod asked;
 mod body;
 mod checking;
-mod folder;
-mod laws;
-mod picked;
+mod querying;
 mod replies;
 mod serve;
 mod stops;
 mod words;
 
-pub use laws::query_replies_are_known;
 pub use serve::run;

@@ -1,9 +1,10 @@
-//! The program `lookd`: the words of the command line, over a folder, the standard input and the standard output.
+//! The program `lookd`: the words of the command line, over a folder, the standard input, the standard output and the
+//! system's clock.
 #![tactic(auto)]
 
 ghost use Rattle.std.specs.Prelude.{◌≡◌, [], IfOk, slice_index_or};
 
-use lk_io::{FolderFiles, InSource, OutSink};
+use lk_io::{FolderFiles, InSource, OutSink, RealClock};
 use lk_serve::run;
 use lk_val::{Items, NoMemory, Text};
 use std::alloc::Global;
@@ -31,7 +32,15 @@ fn start(rt: HostRuntime) -> Result<u8, NoMemory> {
     let mut files = FolderFiles::at(system, folder);
     let mut input = InSource::new(rt.reader());
     let mut out = OutSink::new(io::writer(&rt));
-    Ok(run(alloc, words.as_slice(), &mut files, &mut input, &mut out))
+    let mut clock = RealClock::new(rt);
+    Ok(run(
+        alloc,
+        words.as_slice(),
+        &mut files,
+        &mut input,
+        &mut out,
+        &mut clock,
+    ))
 }
 
 // The words after the program's name. Words that are no text are taken as none, which no command has.

@@ -1,4 +1,4 @@
-use lk_io::{File, MemFiles, MemSink, MemSource};
+use lk_io::{File, MemClock, MemFiles, MemSink, MemSource};
 use lk_serve::run;
 use lk_val::{Bytes, Items, NoMemory, Text};
 use std::alloc::Global;
@@ -63,6 +63,12 @@ fn files(alloc: Global, failing: Option<u64>) -> Result<MemFiles, NoMemory> {
     MemFiles::new(alloc, files, calls(alloc, failing)?)
 }
 
+fn clock(alloc: Global) -> Result<MemClock, NoMemory> {
+    let mut moments = Items::new(alloc);
+    moments.push(0)?;
+    Ok(MemClock::new(moments))
+}
+
 fn run_failing(alloc: Global, body: Bytes, failing: Failing) -> Result<Ended, NoMemory> {
     let mut words = Items::new(alloc);
     for word in ["query", "mini", "ann", "orders"] {
@@ -71,7 +77,15 @@ fn run_failing(alloc: Global, body: Bytes, failing: Failing) -> Result<Ended, No
     let mut files = files(alloc, failing.files)?;
     let mut input = MemSource::new(body, calls(alloc, failing.input)?);
     let mut out = MemSink::new(alloc, failing.room, calls(alloc, failing.output)?)?;
-    let status = run(alloc, words.as_slice(), &mut files, &mut input, &mut out);
+    let mut clock = clock(alloc)?;
+    let status = run(
+        alloc,
+        words.as_slice(),
+        &mut files,
+        &mut input,
+        &mut out,
+        &mut clock,
+    );
     Ok(Ended {
         status,
         written: out,
@@ -84,14 +98,14 @@ fn run_query(alloc: Global, failing: Failing) -> Result<Ended, NoMemory> {
 
 #[test]
 fn each_failing_call_of_the_files_stops_the_run(rt: HostRuntime) -> Result<(), Fail> {
-    for number in 0..6u64 {
+    for number in 0..7u64 {
         let failing = Failing {
             files: Some(number),
             ..NOTHING
         };
         let run = run_query(rt.alloc(), failing).or(Err("memory"))?;
-        // The listing and four files are five calls.
-        if number < 5 {
+        // Two listings and four files are six calls.
+        if number < 6 {
             assert_eq!(rt; run.status, 7, "at call {number}");
             assert!(rt; run.written.held().is_empty(), "at call {number}");
         } else {

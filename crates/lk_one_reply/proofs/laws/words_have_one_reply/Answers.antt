@@ -1,8 +1,9 @@
-use Rattle.lk_one_reply.proofs.OneProject.{one_load, one_reply}
+use Rattle.lk_one_reply.proofs.OneProject.{one_load}
+use Rattle.lk_one_reply.proofs.OneReply.{one_reply}
 use Rattle.lk_one_reply.proofs.laws.words_have_one_reply.Goals as goal
 
 pub returns-clause-loads : goal.returns-clause-loads
 returns-clause-loads c = one_load c.objects_say_one_thing.ensures
 
 pub returns-clause-replies : goal.returns-clause-replies
-returns-clause-replies c = one_reply c.objects_say_one_thing.ensures
+returns-clause-replies c = one_reply (one_load c.objects_say_one_thing.ensures) c.bodies_are_told_one_thing.ensures

@@ -1,3 +1,0 @@
-pub mod GroupingLaws
-pub mod MeasureLaws
-pub mod AnswerLaws

@@ -1,0 +1,5 @@
+connection: "store"
+
+include: "/views/*.view.lkml"
+include: "/explores/*.explore.lkml"
+include: "/refinements/*.lkml"

@@ -1,0 +1,66 @@
+#!/usr/bin/env python3
+"""Works out the answers of queries/*.sql by SQLite, and writes each beside its query as queries/*.csv.
+
+It shares nothing with lookd: the tables are read from data/*.csv, numbers as counts of 1/10,000, and `number` and
+`fraction` print what lookd prints for a number and for the quotient of two whole numbers. Run it in its folder.
+"""
+import csv
+import io
+import json
+import sqlite3
+from fractions import Fraction
+
+KINDS = {"number": "INTEGER", "text": "TEXT", "day": "TEXT", "moment": "TEXT"}
+
+
+def number(count):
+    if count is None:
+        return ""
+    text = "%d.%04d" % divmod(abs(count), 10_000)
+    return ("-" if count < 0 else "") + text.rstrip("0").rstrip(".")
+
+
+def fraction(above, below):
+    return "" if above is None or not below else str(Fraction(above, below))
+
+
+def cell(kind, text):
+    if text == "":
+        return None
+    return int(Fraction(text) * 10_000) if kind == "number" else text
+
+
+def load(store):
+    columns = {}
+    for row in csv.DictReader(open("schema.csv")):
+        columns.setdefault(row["table"], {})[row["column"]] = row["kind"]
+    for table, kinds in columns.items():
+        parts = ", ".join(f"{name} {KINDS[kind]}" for name, kind in kinds.items())
+        store.execute(f"CREATE TABLE {table} ({parts})")
+        for row in csv.DictReader(open(f"data/{table}.csv")):
+            cells = [cell(kind, row[name]) for name, kind in kinds.items()]
+            store.execute(f"INSERT INTO {table} VALUES ({', '.join('?' * len(cells))})", cells)
+
+
+def answer(store, name):
+    query = json.load(open(f"queries/{name}.json"))
+    rows = store.execute(open(f"queries/{name}.sql").read()).fetchall()
+    text = io.StringIO()
+    lines = csv.writer(text, lineterminator="\n")
+    lines.writerow(query["fields"])
+    lines.writerows(rows)
+    cut = "cut" if len(rows) == query.get("limit") else "complete"
+    return text.getvalue() + f"# snapshot 0, {cut}\n"
+
+
+def main():
+    store = sqlite3.connect(":memory:")
+    store.create_function("number", 1, number)
+    store.create_function("fraction", 2, fraction)
+    load(store)
+    for line in open("queries/list"):
+        name = line.split()[0]
+        open(f"queries/{name}.csv", "w").write(answer(store, name))
+
+
+main()

@@ -1,0 +1,23 @@
+explore: users {
+  label: "Customers"
+
+  join: orders {
+    relationship: one_to_many
+    sql_on: ${orders.user_id} = ${users.id} ;;
+  }
+
+  join: order_items {
+    relationship: one_to_many
+    sql_on: ${order_items.order_id} = ${orders.id} ;;
+  }
+}
+
+explore: events {
+  label: "Visits"
+  always_filter: { filters: [events.event_type: "-Heartbeat"] }
+
+  join: users {
+    relationship: many_to_one
+    sql_on: ${events.user_id} = ${users.id} ;;
+  }
+}
