@@ -12,8 +12,8 @@ use Rattle.lk_types.specs.declared.schema.Kind.{Kind}
 use Rattle.lk_region.specs.Regions.{KeepsTexts}
 use Rattle.lk_types.specs.declared.schema.Kind.TheVariants as kind
 use Rattle.lk_region.specs.declared.mark.Mark.{Mark}
-use Rattle.lk_region.specs.declared.column.Column.{Column}
-use Rattle.lk_region.specs.declared.column.Column.TheVariants as column
+use Rattle.lk_table.specs.declared.column.Column.{Column}
+use Rattle.lk_table.specs.declared.column.Column.TheVariants as column
 use Rattle.lk_table.specs.Contents.{cell_at, row_at, text_bytes, text_length}
 use Rattle.lk_table.specs.Columns.{AreText, IsHeld, IsMarked, are_of_kinds, day_value, kind_in, moment_value, number_value, pushed, rows_in, text_value, truth_value, values_in}
 use Rattle.lk_table.proofs.ColumnLaws.{columns_kept, marked_kept}

@@ -10,8 +10,8 @@ use Rattle.lk_val.specs.declared.value.Value.{Value}
 use Rattle.lk_val.specs.declared.value.Value.TheVariants as value
 use Rattle.lk_region.specs.Regions.{KeepsTexts, with_text}
 use Rattle.lk_region.specs.declared.mark.Mark.{Mark}
-use Rattle.lk_region.specs.declared.column.Column.{Column}
-use Rattle.lk_region.specs.declared.column.Column.TheVariants as column
+use Rattle.lk_table.specs.declared.column.Column.{Column}
+use Rattle.lk_table.specs.declared.column.Column.TheVariants as column
 use Rattle.lk_table.specs.Columns.{AreText, IsMark, IsMarked, text_value, values_in}
 
 -- what holds of each item holds of each item behind the first

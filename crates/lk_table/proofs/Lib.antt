@@ -1,3 +1,4 @@
+pub mod CountLaws
 pub mod ColumnLaws
 pub mod RowLaws
 pub mod BlockLaws

@@ -9,8 +9,8 @@ use Rattle.lk_types.specs.declared.schema.Kind.{Kind}
 use Rattle.lk_types.specs.declared.schema.Kind.TheVariants as kind
 use Rattle.lk_region.specs.Regions.{text_at}
 use Rattle.lk_region.specs.declared.mark.Mark.{Mark}
-use Rattle.lk_region.specs.declared.column.Column.{Column}
-use Rattle.lk_region.specs.declared.column.Column.TheVariants as column
+use Rattle.lk_table.specs.declared.column.Column.{Column}
+use Rattle.lk_table.specs.declared.column.Column.TheVariants as column
 use Rattle.lk_table.specs.Contents.{Content, cell_at, text_bytes, text_length}
 
 -- ---- cells

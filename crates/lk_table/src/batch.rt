@@ -64,7 +64,7 @@ pub fn read_batch(alloc: Global, def: &TableDef, csv: &[u8]) -> Result<Batch, Ba
     let places = read_places(alloc, def.columns.as_slice(), &names)?;
     let block = read_behind(alloc, def, &places, &mut reader)?;
     Ok(Batch {
-        block: Arc::new(alloc, with_keys(block)?)?,
+        block: Arc::new(alloc, with_keys(block)?.shrunk())?,
     })
 }
 

@@ -5,7 +5,9 @@ ghost use Rattle.lk_table.specs.Contents.{cell_at, row_at, text_bytes, text_leng
 ghost use Rattle.lk_table.specs.Columns.{AreText, IsMarked, are_of_kinds, kind_in, lengths_added, pushed, values_in, with_row};
 
 use crate::cells::{cell_in, push_cell};
-use lk_region::{Column, Region};
+use crate::column::Column;
+use crate::counts::Counts;
+use lk_region::Region;
 use lk_types::Kind;
 use lk_val::{Items, NoMemory, ValueRef};
 use std::alloc::Global;
@@ -82,6 +84,27 @@ impl Block {
         })
     }
 
+    /// The block, which has given back the memory that no cell takes.
+    pub(crate) fn shrunk(self) -> Block
+        ensures { result ≡ self }
+    {
+        let Block {
+            region,
+            mut columns,
+            key,
+            count,
+            text,
+        } = self;
+        shrink_all(&mut columns);
+        Block {
+            region,
+            columns,
+            key,
+            count,
+            text,
+        }
+    }
+
     /// The number of the key column.
     pub(crate) fn key(&self) -> Option<u32>
         ensures { result ≡ self.now.key }
@@ -138,10 +161,18 @@ fn new_column(alloc: Global, kind: Kind) -> Column
 {
     match kind {
         Kind::Text => Column::Text(Items::new(alloc)),
-        Kind::Number => Column::Number(Items::new(alloc)),
+        Kind::Number => Column::Number(Counts::new(alloc)),
         Kind::Truth => Column::Truth(Items::new(alloc)),
         Kind::Day => Column::Day(Items::new(alloc)),
-        Kind::Moment => Column::Moment(Items::new(alloc)),
+        Kind::Moment => Column::Moment(Counts::new(alloc)),
+    }
+}
+
+fn shrink_all(columns: &mut [Column])
+    ensures { columns.new ≡ columns.old }
+{
+    for column in columns.iter_mut() {
+        column.shrink();
     }
 }
 

@@ -6,7 +6,8 @@ ghost use Rattle.lk_region.specs.Regions.{KeepsTexts};
 ghost use Rattle.lk_table.specs.Contents.{cell_at};
 ghost use Rattle.lk_table.specs.Columns.{AreText, IsMark, IsMarked, day_value, kind_in, moment_value, number_value, text_value, truth_value, values_in};
 
-use lk_region::{Column, Mark, Region};
+use crate::column::Column;
+use lk_region::{Mark, Region};
 use lk_val::{NoMemory, Num, ValueRef, as_text};
 
 /// Adds a cell at the end of a column, and its text to the region.
@@ -27,10 +28,10 @@ pub(crate) fn push_cell(
 {
     match column {
         Column::Text(cells) => cells.push(mark_of(region, cell)?),
-        Column::Number(cells) => cells.push(number_of(cell)),
+        Column::Number(counts) => counts.push(number_of(cell)),
         Column::Truth(cells) => cells.push(truth_of(cell)),
         Column::Day(cells) => cells.push(day_of(cell)),
-        Column::Moment(cells) => cells.push(moment_of(cell)),
+        Column::Moment(counts) => counts.push(moment_of(cell)),
     }
 }
 
@@ -99,10 +100,10 @@ pub(crate) fn cell_in<'a>(region: &'a Region, column: &'a Column, row: usize) ->
 {
     match column {
         Column::Text(cells) => text_ref(region, cells.as_slice()[row]),
-        Column::Number(cells) => number_ref(cells.as_slice()[row]),
+        Column::Number(counts) => number_ref(counts.get(row)),
         Column::Truth(cells) => truth_ref(cells.as_slice()[row]),
         Column::Day(cells) => day_ref(cells.as_slice()[row]),
-        Column::Moment(cells) => moment_ref(cells.as_slice()[row]),
+        Column::Moment(counts) => moment_ref(counts.get(row)),
     }
 }
 

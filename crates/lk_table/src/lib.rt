@@ -5,6 +5,8 @@ mod amount;
 mod batch;
 mod block;
 mod cells;
+mod column;
+mod counts;
 mod examples;
 mod fault;
 mod header;

@@ -113,7 +113,7 @@ pub fn compact(alloc: Global, t: &TableVersion) -> Result<TableVersion, NoMemory
     ensures { IfOk result (λ version. version ≡ t.now) }
 {
     let emptied = t.emptied(alloc)?;
-    let block = Arc::new(alloc, joined(alloc, t)?)?;
+    let block = Arc::new(alloc, joined(alloc, t)?.shrunk())?;
     let BlockKeys { all, again: _ } = keys_in(alloc, &*block)?;
     let part = Part::new(alloc, &block, all)?;
     emptied.with_part(alloc, part)

@@ -20,5 +20,5 @@ returns-clause-shape c =
     let records = records_left c.take_record.new.reader in
     let shape = shape_from c.args.def.now (rows_behind c.args.def.now.columns records c.deref-2.result.now) c.in_ok-block.block c.in_ok-block.ensures in
     let kept = keys_kept c.in_ok-block.block c.in_ok-with_keys.field-0 c.in_ok-with_keys.ensures in
-    let same = c.in_ok-new.ensures.ok ∙ kept in
+    let same = c.in_ok-new.ensures.ok ∙ c.shrunk.ensures ∙ kept in
     (ap (λ (content : Content). content.kinds) same ∙ shape.0, ap (λ (content : Content). content.key) same ∙ shape.1)

@@ -4,7 +4,7 @@ use Rattle.lk_val.specs.ValueRefs.{value_of_ref}
 use Rattle.lk_val.specs.declared.value.Value.TheVariants as value
 use Rattle.lk_val.specs.declared.value_ref.ValueRef.TheVariants as ref
 use Rattle.lk_types.specs.Tables.{is_of_kind}
-use Rattle.lk_region.specs.declared.column.Column.{Column}
+use Rattle.lk_table.specs.declared.column.Column.{Column}
 use Rattle.lk_table.specs.Columns.{kind_in}
 use Rattle.lk_table.proofs.RowLaws.{kinds_long}
 use Rattle.lk_table.proofs.BlockLaws.{kind_there, kinds_step, marked_step, values_step}

@@ -1,7 +1,7 @@
 use Rattle.std.proofs.Common.{◌<◌, ◌≤◌, ◌∙◌, ap, sym, arith, length, map, List}
 use Rattle.std.proofs.lemmas.List.{take_all}
 use Rattle.lk_types.specs.Tables.{Cells}
-use Rattle.lk_region.specs.declared.column.Column.{Column}
+use Rattle.lk_table.specs.declared.column.Column.{Column}
 use Rattle.lk_table.specs.Contents.{Content, cell_at, row_at}
 use Rattle.lk_table.specs.Columns.{are_of_kinds, values_in}
 use Rattle.lk_table.proofs.RowLaws.{length-rows_in}
