@@ -45,12 +45,13 @@ def load(store):
 def answer(store, name):
     query = json.load(open(f"queries/{name}.json"))
     rows = store.execute(open(f"queries/{name}.sql").read()).fetchall()
+    limit = query.get("limit", 500)
     text = io.StringIO()
     lines = csv.writer(text, lineterminator="\n")
     lines.writerow(query["fields"])
-    lines.writerows(rows)
-    cut = "cut" if len(rows) == query.get("limit") else "complete"
-    return text.getvalue() + f"# snapshot 0, {cut}\n"
+    lines.writerows(rows[:limit])
+    completeness = "complete" if len(rows) <= limit else "cut"
+    return text.getvalue() + f"# snapshot 0, {completeness}\n"
 
 
 def main():

@@ -65,13 +65,13 @@ module _ (one_load : OneLoad) (one_told : OneTold) where
       one_answer loaded.model k.told a b (subst (λ r. TellsAnswer loaded.model r a) same h.tells) k.tells
 
   over_body : (loaded : Loaded) (tables : Tables) (user explore : List ℕ) (now : ℤ) (body : Option (List ℕ)) (a b : Reply)
-      → OverBody loaded tables user explore now body a → OverBody loaded tables user explore now body b → a ≡ b
+      → OverBody loaded tables user explore (Some now) body a → OverBody loaded tables user explore (Some now) body b → a ≡ b
   over_body loaded tables user explore now None a b h k = h ∙ sym k
   over_body loaded tables user explore now (Some body) a b h k = one_answered loaded (sources_of loaded.model tables) user explore now body a b h k
 
   over_tables : (loaded : Loaded) (user explore input : List ℕ) (now : ℤ) (t : Result Tables ProjectFault) (a b : Reply)
       → OverTables loaded user explore (Some input) (Some now) t a → OverTables loaded user explore (Some input) (Some now) t b → a ≡ b
-  over_tables loaded user explore input now (Ok tables) a b h k = over_body loaded tables user explore now (small_input input) a b h k
+  over_tables loaded user explore input now (Ok tables) a b h k = over_body loaded tables user explore now (small_input input) a b h.1 k.1
   over_tables loaded user explore input now (Err (project.Model line)) a b h k = h ∙ sym k
   over_tables loaded user explore input now (Err project.Failed) a b h k = absurd h
   over_tables loaded user explore input now (Err project.NoMemory) a b h k = absurd h

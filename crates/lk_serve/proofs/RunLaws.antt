@@ -7,7 +7,8 @@ use Rattle.lk_resolve.specs.Loading.{IsLoadOf}
 use Rattle.lk_resolve.specs.declared.loading.Loaded.{Loaded}
 use Rattle.lk_serve.specs.Checks.{IsChecked, IsToldBy, TellsSome}
 use Rattle.lk_serve.specs.Outcomes.{IsReply}
-use Rattle.lk_serve.specs.Runs.{HasBegun, HasWritten, HasWrittenCheck, IsWritten}
+use Rattle.lk_serve.specs.Queries as queries
+use Rattle.lk_serve.specs.Runs.{HasBegun, HasWritten, HasWrittenCheck, HasWrittenQuery, IsWritten}
 use Rattle.lk_serve.specs.declared.replies.Reply.{Reply}
 
 pub has_written : (words : List (List ℕ)) (files : Option (List File)) (input : Option (List ℕ)) (now : Option ℤ) (old new : Option (List ℕ)) (status : ℕ) (reply : Reply)
@@ -28,3 +29,7 @@ tells_some loaded reply told = record { loaded = loaded; told = told }
 pub has_written_check : (old new : Option (List ℕ)) (status : ℕ) (reply : Reply)
     → TellsSome reply → IsWritten old new reply status → HasWrittenCheck old new status
 has_written_check old new status reply tells written = record { reply = reply; tells = tells; written = written }
+
+pub has_written_query : (old new : Option (List ℕ)) (status : ℕ) (reply : Reply)
+    → queries.TellsSome reply → IsWritten old new reply status → HasWrittenQuery old new status
+has_written_query old new status reply tells written = record { reply = reply; tells = tells; written = written }

@@ -1,5 +1,6 @@
 -- The reply to `query`: to a caller's query on an explore of the project that a folder's files are, over the tables of its data files.
 use Rattle.std.specs.Prelude.{◌≡◌, ◌⊎◌, ℕ, ℤ, IfSome, nat_le, false, if◌then◌else◌, List, [], length, Option, Some, None, Result, Ok, Err}
+use Rattle.lk_val.specs.declared.fault.FaultLine.{FaultLine}
 use Rattle.lk_io.specs.declared.files.File.{File}
 use Rattle.lk_types.specs.declared.model.Model.{Model}
 use Rattle.lk_types.specs.declared.rows.Sources.{Sources}
@@ -14,7 +15,7 @@ use Rattle.lk_seed.specs.Opening.{tables_of}
 use Rattle.lk_ask.specs.Asks.{IsAsked, is_no_memory}
 use Rattle.lk_ask.specs.declared.fault.AskFault.{AskFault}
 use Rattle.lk_ask.specs.declared.told.Told.{Told}
-use Rattle.lk_serve.specs.Replies.{answer_reply, fault_reply, long_reply, refused_reply, unanswered_reply}
+use Rattle.lk_serve.specs.Replies.{ComesUnread, answer_reply, fault_reply, long_reply, refused_reply, unanswered_reply}
 use Rattle.lk_serve.specs.declared.replies.Reply.{Reply}
 
 -- ---- over tables
@@ -34,16 +35,16 @@ pub record IsAnswered (loaded : Loaded) (sources : Sources) (user explore : List
 abbrev pub small_input : List ℕ → Option (List ℕ)
 small_input input = if nat_le (length input) 16777216 then Some input else None
 
--- a longer input is refused as it is
-abbrev pub OverBody : Loaded → Tables → List ℕ → List ℕ → ℤ → Option (List ℕ) → Reply → Type 0
+-- a longer input is refused as it is; of any other the reply rests on the moment too, as far as it is told
+abbrev pub OverBody : Loaded → Tables → List ℕ → List ℕ → Option ℤ → Option (List ℕ) → Reply → Type 0
 OverBody loaded tables user explore now None reply = reply ≡ long_reply
 OverBody loaded tables user explore now (Some body) reply =
-    IsAnswered loaded (sources_of loaded.model tables) user explore now body reply
+    IfSome now (λ moment. IsAnswered loaded (sources_of loaded.model tables) user explore moment body reply)
 
--- the tables that the data files hold, or their first fault; over tables the reply rests on the input and the moment too, as far as these are told
+-- the tables that the data files hold, or their first fault; over tables the query is answered or refused, by the input as far as it is told
 abbrev pub OverTables : Loaded → List ℕ → List ℕ → Option (List ℕ) → Option ℤ → Result Tables ProjectFault → Reply → Type 0
 OverTables loaded user explore input now (Ok tables) reply =
-    IfSome input (λ left. IfSome now (λ moment. OverBody loaded tables user explore moment (small_input left) reply))
+    (ComesUnread reply.status → ⊥) × IfSome input (λ left. OverBody loaded tables user explore now (small_input left) reply)
 OverTables loaded user explore input now (Err (project.Model fault)) reply = reply ≡ fault_reply fault
 OverTables loaded user explore input now (Err project.Failed) reply = ⊥
 OverTables loaded user explore input now (Err project.NoMemory) reply = ⊥
@@ -74,3 +75,14 @@ pub record IsQueried (files : List File) (user explore : List ℕ) (input : Opti
   pub loaded : Result Loaded ProjectFault
   pub is_load : IsLoadOf files loaded
   pub told : OverLoad files user explore input now loaded reply
+
+-- ---- whatever the objects show
+
+-- the line of some fault, that no query is answered, that the input is too long, a refusal, or an answer
+abbrev pub TellsSome : Reply → Type 0
+TellsSome reply =
+    ((line : FaultLine) × (reply ≡ fault_reply line))
+    ⊎ ((reply ≡ unanswered_reply)
+    ⊎ ((reply ≡ long_reply)
+    ⊎ (((fault : AskFault) × (is_no_memory fault ≡ false) × (reply ≡ refused_reply fault))
+    ⊎ ((m : Model) × (told : Told) × (reply ≡ answer_reply m told)))))

@@ -7,6 +7,7 @@ use Rattle.lk_io.specs.Streams.{AppendsFront}
 use Rattle.lk_io.specs.declared.files.File.{File}
 use Rattle.lk_serve.specs.Checks.{TellsSome}
 use Rattle.lk_serve.specs.Outcomes.{IsReply}
+use Rattle.lk_serve.specs.Queries as queries
 use Rattle.lk_serve.specs.Replies.{code_of}
 use Rattle.lk_serve.specs.declared.replies.Reply.{Reply}
 
@@ -65,4 +66,10 @@ pub record HasBegun (words : List (List ℕ)) (files : Option (List File)) (inpu
 pub record HasWrittenCheck (old new : Option (List ℕ)) (status : ℕ) : Type 0 where
   pub reply : Reply
   pub tells : TellsSome reply
+  pub written : IsWritten old new reply status
+
+-- what a query may write went out whole, and the run ended with its status
+pub record HasWrittenQuery (old new : Option (List ℕ)) (status : ℕ) : Type 0 where
+  pub reply : Reply
+  pub tells : queries.TellsSome reply
   pub written : IsWritten old new reply status

@@ -4,7 +4,7 @@ ghost use Rattle.lk_types.specs.Dates.{IsMomentInYears};
 ghost use Rattle.lk_types.specs.Tables.{are_valid_tables};
 ghost use Rattle.lk_ask.specs.Asks.{HasTables};
 ghost use Rattle.lk_seed.specs.Opening.{tables_of};
-ghost use Rattle.lk_serve.specs.Queries.{IsAnswerable, IsAnswered, IsQueried, OverModel, OverTables};
+ghost use Rattle.lk_serve.specs.Queries.{IsAnswerable, IsAnswered, IsQueried, OverModel, OverTables, TellsSome};
 ghost use Rattle.lk_serve.specs.Replies.{ComesUnread};
 ghost use Rattle.lk_serve.specs.Runs.{IsAskedOnce, next_moment};
 ghost use Rattle.lk_serve.specs.Stops.{HasStopCause, NeverStops};
@@ -39,6 +39,7 @@ pub fn query<F: Files, I: Source, C: Clock>(
         IsQueried told user.now explore.now (I.left input.old) (next_moment (C.moments clock.old)) reply)) }
     ensures files { HasStopCause Stop.Files (F.faults files.old) (F.faults files.new) result }
     ensures input { HasStopCause Stop.Input (I.faults input.old) (I.faults input.new) result }
+    ensures tells { IfOk result TellsSome }
     ensures status { IfOk result (λ reply. reply.status ≡ Status.Usage → ⊥) }
     ensures whole { IfOk result (λ reply. reply.status ≡ Status.Done → IsAtEnd (I.left input.new)) }
     ensures unread { IfOk result (λ reply.
@@ -69,6 +70,7 @@ fn over_model<F: Files, I: Source, C: Clock>(
         OverModel told loaded.now user.now explore.now (I.left input.old) (next_moment (C.moments clock.old)) reply)) }
     ensures files { HasStopCause Stop.Files (F.faults files.old) (F.faults files.new) result }
     ensures input { HasStopCause Stop.Input (I.faults input.old) (I.faults input.new) result }
+    ensures tells { IfOk result TellsSome }
     ensures status { IfOk result (λ reply. reply.status ≡ Status.Usage → ⊥) }
     ensures whole { IfOk result (λ reply. reply.status ≡ Status.Done → IsAtEnd (I.left input.new)) }
     ensures unread { IfOk result (λ reply.
@@ -111,6 +113,7 @@ fn over_files<F: Files, I: Source>(
         OverTables loaded.now user.now explore.now (I.left input.old) (Some now) (tables_of loaded.now.model.schema told) reply)) }
     ensures files { HasStopCause Stop.Files (F.faults files.old) (F.faults files.new) result }
     ensures input { HasStopCause Stop.Input (I.faults input.old) (I.faults input.new) result }
+    ensures tells { IfOk result TellsSome }
     ensures status { IfOk result (λ reply. reply.status ≡ Status.Usage → ⊥) }
     ensures whole { IfOk result (λ reply. reply.status ≡ Status.Done → IsAtEnd (I.left input.new)) }
     ensures unread { IfOk result (λ reply.
@@ -142,6 +145,7 @@ fn over_tables<I: Source>(
     ensures reply { IfOk result (λ reply. OverTables loaded.now user.now explore.now (I.left input.old) (Some now) (Ok tables) reply) }
     ensures cause { HasStopCause Stop.Input (I.faults input.old) (I.faults input.new) result }
     ensures files { NeverStops Stop.Files result }
+    ensures tells { IfOk result TellsSome }
     ensures read { IfOk result (λ reply. ComesUnread reply.status → ⊥) }
     ensures whole { IfOk result (λ reply. reply.status ≡ Status.Done → IsAtEnd (I.left input.new)) }
 {
@@ -178,6 +182,7 @@ fn answer(
     requires moment { IsMomentInYears now }
     requires tables { HasTables loaded.now.model sources.now }
     ensures reply { IfOk result (IsAnswered loaded.now sources.now user.now explore.now now body.now) }
+    ensures tells { IfOk result TellsSome }
     ensures read { IfOk result (λ reply. ComesUnread reply.status → ⊥) }
 {
     match ask(

@@ -4,8 +4,9 @@ ghost use Rattle.lk_io.specs.Causes.{Rose};
 ghost use Rattle.lk_io.specs.Streams.{AppendsFront};
 ghost use Rattle.lk_serve.specs.Checks.{TellsSome};
 ghost use Rattle.lk_serve.specs.Outcomes.{IsReply};
+ghost use Rattle.lk_serve.specs.Queries as queries;
 ghost use Rattle.lk_serve.specs.Replies.{ComesUnread, code_of, usage_reply};
-ghost use Rattle.lk_serve.specs.Runs.{HasBegun, HasWritten, HasWrittenCheck, IsAskedOnce, IsStatus, IsUsageStatus, IsWritten, LeavesInput, NeverFall, StopsBefore, is_stopped, next_moment};
+ghost use Rattle.lk_serve.specs.Runs.{HasBegun, HasWritten, HasWrittenCheck, HasWrittenQuery, IsAskedOnce, IsStatus, IsUsageStatus, IsWritten, LeavesInput, NeverFall, StopsBefore, is_stopped, next_moment};
 ghost use Rattle.lk_serve.specs.Stops.{HasStopCause};
 ghost use Rattle.lk_serve.specs.Words.{IsQuery, IsUnasked, asked_by, check, unknown};
 ghost use Rattle.lk_serve.specs.declared.replies.Status.{Status};
@@ -26,7 +27,7 @@ const OUTPUT_FAILED: u8 = 4;
 /// One run of the program: `words` without the program's name, over a folder's files, an input, an output and a clock.
 /// It answers the status of the process: 0 done, 1 a fault of the project, 2 wrong words, 3 the input failed,
 /// 4 the output failed, 6 want of memory, 7 the files failed, 8 a refused query.
-#[tactic(auto, using(crate::proofs::RunLaws::has_written, crate::proofs::RunLaws::has_begun, crate::proofs::RunLaws::has_written_check))]
+#[tactic(auto, using(crate::proofs::RunLaws::has_written, crate::proofs::RunLaws::has_begun, crate::proofs::RunLaws::has_written_check, crate::proofs::RunLaws::has_written_query))]
 pub fn run<F: Files, I: Source, O: Sink, C: Clock>(
     alloc: Global,
     words: &[Text],
@@ -59,6 +60,8 @@ pub fn run<F: Files, I: Source, O: Sink, C: Clock>(
     ensures wrong_words { asked_by words.now ≡ unknown → IsUsageStatus result }
     ensures checked { asked_by words.now ≡ check → is_stopped result ≡ false →
         HasWrittenCheck (O.held out.old) (O.held out.new) result }
+    ensures queried { IsQuery (asked_by words.now) → is_stopped result ≡ false →
+        HasWrittenQuery (O.held out.old) (O.held out.new) result }
     ensures unused { asked_by words.now ≡ unknown → F.faults files.new ≡ F.faults files.old }
     ensures unasked { IsUnasked (asked_by words.now) →
         (I.faults input.new ≡ I.faults input.old) × (I.left input.new ≡ I.left input.old) }
@@ -108,6 +111,7 @@ fn reply_to<F: Files, I: Source, C: Clock>(
     ensures wrong_words { asked_by words.now ≡ unknown →
         MatchResult result (λ reply. reply.status ≡ Status.Usage) (λ stop. stop ≡ Stop.Memory) }
     ensures checked { asked_by words.now ≡ check → IfOk result TellsSome }
+    ensures queried { IsQuery (asked_by words.now) → IfOk result queries.TellsSome }
     ensures clock { IsAskedOnce (C.moments clock.old) (C.moments clock.new) }
     ensures timeless { IsUnasked (asked_by words.now) → C.moments clock.new ≡ C.moments clock.old }
     ensures whole { IfOk result (λ reply. reply.status ≡ Status.Done → IsQuery (asked_by words.now)

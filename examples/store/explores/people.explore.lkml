@@ -10,6 +10,16 @@ explore: users {
     relationship: one_to_many
     sql_on: ${order_items.order_id} = ${orders.id} ;;
   }
+
+  join: inventory_items {
+    relationship: one_to_one
+    sql_on: ${order_items.inventory_item_id} = ${inventory_items.id} ;;
+  }
+
+  join: products {
+    relationship: many_to_one
+    sql_on: ${inventory_items.product_id} = ${products.id} ;;
+  }
 }
 
 explore: events {

@@ -8,7 +8,7 @@ view: products {
   dimension: brand { suggest_explore: products suggest_dimension: products.brand }
   dimension: department {}
   dimension: retail_price { type: number value_format_name: eur }
-  dimension: retail_price_tier { type: tier tiers: [25, 50, 100] sql: ${retail_price} ;; }
+  dimension: retail_price_tier { type: tier tiers: [25, 50, 100] style: integer sql: ${retail_price} ;; }
   dimension: full_name { sql: UPPER(${brand}) || ': ' || ${name} ;; }
 
   measure: count { type: count }

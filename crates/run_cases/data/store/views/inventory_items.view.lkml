@@ -6,7 +6,7 @@ view: inventory_items {
   dimension: id { primary_key: yes type: number }
   dimension: product_id { type: number hidden: yes }
   dimension: cost { type: number value_format_name: eur }
-  dimension: cost_tier { type: tier tiers: [10, 25, 50] sql: ${cost} ;; }
+  dimension: cost_tier { type: tier tiers: [10, 25, 50] style: integer sql: ${cost} ;; }
   dimension_group: sold { type: time timeframes: [raw, date, month, quarter] sql: ${TABLE}.sold_at ;; }
   dimension: is_sold { type: yesno sql: ${sold_raw} IS NOT NULL ;; }
 

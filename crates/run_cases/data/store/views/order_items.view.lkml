@@ -3,8 +3,14 @@ view: order_items {
   dimension: order_id { type: number hidden: yes }
   dimension: inventory_item_id { type: number hidden: yes }
   dimension: sale_price { type: number value_format_name: eur }
-  dimension: price_tier { type: tier tiers: [20, 50, 100] sql: ${sale_price} ;; }
-  dimension_group: returned { type: time timeframes: [raw, date, month, year] sql: ${TABLE}.returned_on ;; }
+  dimension: price_tier { type: tier tiers: [20, 50, 100] style: integer sql: ${sale_price} ;; }
+  dimension_group: returned {
+    type: time
+    datatype: date
+    convert_tz: no
+    timeframes: [raw, date, month, year]
+    sql: ${TABLE}.returned_on ;;
+  }
   dimension: is_returned { type: yesno sql: ${returned_raw} IS NOT NULL ;; }
   dimension: margin { type: number sql: ${sale_price} - ${inventory_items.cost} ;; }
   dimension: is_at_a_loss { type: yesno sql: ${margin} < 0 ;; }
