@@ -1,0 +1,6 @@
+mod AnswerLemmas
+mod FieldLemmas
+mod HeadLemmas
+mod ReadingLemmas
+mod ReplyLemmas
+mod TargetLemmas

@@ -1,0 +1,9 @@
+pub mod Answers
+pub mod Fields
+pub mod Heads
+pub mod Items
+pub mod Judged
+pub mod Reading
+pub mod Replies
+pub mod Routes
+pub mod Targets
