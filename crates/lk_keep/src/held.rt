@@ -1,0 +1,43 @@
+ghost use Rattle.lk_keep.specs.System.{told_by, faults_of};
+
+use crate::command::Command;
+use crate::faults::KeepFault;
+use crate::keeper::Keeper;
+use crate::kept::Kept;
+use crate::mem_keeper::MemKeeper;
+use crate::sql_keeper::SqlKeeper;
+use std::alloc::Global;
+
+/// The store of a run: in memory, which tells what it holds, or in a file.
+#[derive(Drop)]
+pub enum Held {
+    Memory(MemKeeper),
+    File(SqlKeeper),
+}
+
+impl Keeper for Held {
+    ghost held = { told_by };
+
+    ghost faults = { faults_of };
+
+    fn load_all(&mut self, alloc: Global) -> Result<Kept, KeepFault> {
+        match self {
+            Held::Memory(keeper) => keeper.load_all(alloc),
+            Held::File(keeper) => keeper.load_all(alloc),
+        }
+    }
+
+    fn save_load(&mut self, alloc: Global, command: &Command) -> Result<(), KeepFault> {
+        match self {
+            Held::Memory(keeper) => keeper.save_load(alloc, command),
+            Held::File(keeper) => keeper.save_load(alloc, command),
+        }
+    }
+
+    fn save_check(&mut self, alloc: Global, number: u64) -> Result<(), KeepFault> {
+        match self {
+            Held::Memory(keeper) => keeper.save_check(alloc, number),
+            Held::File(keeper) => keeper.save_check(alloc, number),
+        }
+    }
+}

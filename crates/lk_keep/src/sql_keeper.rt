@@ -1,0 +1,138 @@
+ghost use Rattle.std.specs.Prelude.{◌≡◌, None};
+ghost use Rattle.lk_keep.specs.Causes.{HasKeepCause};
+ghost use Rattle.lk_keep.specs.System.{sql_faults};
+
+mod id;
+mod reading;
+mod writing;
+
+use crate::command::Command;
+use crate::faults::KeepFault;
+use crate::keeper::Keeper;
+use crate::kept::Kept;
+use lk_val::Text;
+use reading::read_store;
+use sqlite::{Connection, Error, ErrorCode, File, FileStore};
+use std::alloc::Global;
+use std::rt::HostRuntime;
+use writing::{write_check, write_load};
+
+/// A store of loads in a file of SQLite. It tells nothing. It opens the file at its first call, and anew
+/// after a call that failed. Each refusal but want of memory is a fault. (lookd)
+#[derive(Drop)]
+pub struct SqlKeeper {
+    rt: HostRuntime,
+    path: Text,
+    // The open file, unless the last call failed.
+    opened: Option<Connection<FileStore<File>>>,
+    faults: u64,
+}
+
+impl From<Error> for KeepFault {
+    fn from(error: Error) -> KeepFault {
+        match error {
+            Error::SqliteFailure(ErrorCode::OutOfMemory) => KeepFault::NoMemory,
+            _ => KeepFault::Failed,
+        }
+    }
+}
+
+// The file at a path, which is made where there is none.
+fn open_file(rt: &HostRuntime, path: &str) -> Result<Connection<FileStore<File>>, KeepFault> {
+    Ok(Connection::open(rt, path)?)
+}
+
+impl SqlKeeper {
+    /// The store in the file at this path, which is opened or made at the first call.
+    pub fn at(rt: HostRuntime, path: Text) -> SqlKeeper
+        ensures faults { sql_faults result ≡ 0 }
+    {
+        SqlKeeper {
+            rt,
+            path,
+            opened: None,
+            faults: 0,
+        }
+    }
+
+    /// How many calls failed.
+    pub fn faults(&self) -> u64
+        ensures { result ≡ sql_faults self.now }
+    {
+        self.faults
+    }
+
+    // The open file, which is put back where the call succeeds.
+    fn take_opened(&mut self) -> Result<Connection<FileStore<File>>, KeepFault>
+        ensures same { sql_faults self.new ≡ sql_faults self.old }
+    {
+        match self.opened.take() {
+            Some(connection) => Ok(connection),
+            None => open_file(&self.rt, self.path.as_str()),
+        }
+    }
+
+    fn read(&mut self, alloc: Global) -> Result<Kept, KeepFault>
+        ensures same { sql_faults self.new ≡ sql_faults self.old }
+    {
+        let mut connection = self.take_opened()?;
+        let kept = read_store(alloc, &mut connection)?;
+        self.opened = Some(connection);
+        Ok(kept)
+    }
+
+    fn write_load(&mut self, command: &Command) -> Result<(), KeepFault>
+        ensures same { sql_faults self.new ≡ sql_faults self.old }
+    {
+        let mut connection = self.take_opened()?;
+        write_load(&mut connection, command)?;
+        self.opened = Some(connection);
+        Ok(())
+    }
+
+    fn write_check(&mut self, number: u64) -> Result<(), KeepFault>
+        ensures same { sql_faults self.new ≡ sql_faults self.old }
+    {
+        let mut connection = self.take_opened()?;
+        write_check(&mut connection, number)?;
+        self.opened = Some(connection);
+        Ok(())
+    }
+
+    // Counts a call's fault.
+    fn count<T>(&mut self, answer: Result<T, KeepFault>) -> Result<T, KeepFault>
+        ensures cause { HasKeepCause (sql_faults self.old) (sql_faults self.new) result }
+    {
+        if let Err(KeepFault::Failed) = &answer {
+            self.faults = self.faults.saturating_add(1);
+        }
+        answer
+    }
+}
+
+impl Keeper for SqlKeeper {
+    ghost held = { λ _. None };
+
+    ghost faults = { λ keeper. sql_faults keeper };
+
+    fn load_all(&mut self, alloc: Global) -> Result<Kept, KeepFault>
+        ensures cause { HasKeepCause (sql_faults self.old) (sql_faults self.new) result }
+    {
+        let answer = self.read(alloc);
+        self.count(answer)
+    }
+
+    fn save_load(&mut self, _: Global, command: &Command) -> Result<(), KeepFault>
+        ensures cause { HasKeepCause (sql_faults self.old) (sql_faults self.new) result }
+    {
+        let answer = self.write_load(command);
+        self.count(answer)
+    }
+
+    fn save_check(&mut self, _: Global, number: u64) -> Result<(), KeepFault>
+        ensures cause { HasKeepCause (sql_faults self.old) (sql_faults self.new) result }
+    {
+        let answer = self.write_check(number);
+        self.count(answer)
+    }
+}
