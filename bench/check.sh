@@ -9,7 +9,7 @@
 # With each line stand the time, the most memory of the process, and what it printed. A measurement, not a test. It runs
 # the program that `./lookd` builds.
 top=$(cd "$(dirname "$0")/.." && pwd) || exit 1
-"$top/lookd" help >/dev/null
+[ -n "$LOOKD" ] || "$top/lookd" help >/dev/null
 program=${LOOKD:-$top/crates/lookd/out/lookd}
 work=$(mktemp -d) || exit 1
 trap 'rm -rf "$work"' EXIT
