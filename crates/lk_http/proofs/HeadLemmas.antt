@@ -60,7 +60,7 @@ no_feed line w = λ k d l. from_not (get_or line k d == line_feed) (AllPass-from
 abbrev pub lines_in : List ℕ → ℕ
 lines_in bytes = count_by (λ line. not (is_empty_line line)) (ended_lines bytes)
 
-front_of_parts : (part : List ℕ) (parts : List (List ℕ)) → 0 < length parts → take (length (part ∷ parts) - 1) (part ∷ parts) ≡ part ∷ take (length parts - 1) parts
+pub front_of_parts : (part : List ℕ) (parts : List (List ℕ)) → 0 < length parts → take (length (part ∷ parts) - 1) (part ∷ parts) ≡ part ∷ take (length parts - 1) parts
 front_of_parts part [] some = absurd (omega arith)
 front_of_parts part (next ∷ parts) some =
     let one_more : length (part ∷ next ∷ parts) - 1 ≡ suc (length (next ∷ parts) - 1) = omega arith in
@@ -84,7 +84,7 @@ counted line lines e =
     sum_by-cons (λ l. cond (not (is_empty_line l)) 1 0) line lines
     ∙ ap (λ b. cond (not b) 1 0 + count_by (λ l. not (is_empty_line l)) lines) e
 
-within_append : (a b : List ℕ) → is_within a ≡ true → is_within b ≡ true → is_within (a ++ b) ≡ true
+pub within_append : (a b : List ℕ) → is_within a ≡ true → is_within b ≡ true → is_within (a ++ b) ≡ true
 within_append a b v w = list_all-append (λ x. not (x == line_feed)) a b ∙ (λ i. v i && w i)
 
 -- a line of two bytes or more counts
@@ -97,7 +97,7 @@ line_counts line crlf rest w l =
     ∙ lines_after returned rest (within_append line (carriage_return ∷ []) w refl) ∙ counted returned (ended_lines rest) (long_is_given returned long)
 
 -- empty lines do not
-blank_counts : (ends : List LineEnd) (rest : List ℕ) → lines_in (print_blank ends ++ rest) ≡ lines_in rest
+pub blank_counts : (ends : List LineEnd) (rest : List ℕ) → lines_in (print_blank ends ++ rest) ≡ lines_in rest
 blank_counts [] rest = refl
 blank_counts (lf ∷ ends) rest = lines_after [] (print_blank ends ++ rest) refl ∙ blank_counts ends rest
 blank_counts (crlf ∷ ends) rest = lines_after (carriage_return ∷ []) (print_blank ends ++ rest) refl ∙ blank_counts ends rest
@@ -152,14 +152,14 @@ line_same bytes line more e empty = omega (arith, (lines_cut bytes line more e).
 -- ---- the lines of a head
 
 -- bytes of a class without the line feed
-class_within : (test : ℕ → Bool) → test line_feed ≡ false → (bytes : List ℕ) → AllPass test bytes → is_within bytes ≡ true
+pub class_within : (test : ℕ → Bool) → test line_feed ≡ false → (bytes : List ℕ) → AllPass test bytes → is_within bytes ≡ true
 class_within test lacks [] all = refl
 class_within test lacks (b ∷ bytes) all = (λ i. not (other (b == line_feed) refl i) && class_within test lacks bytes (All-tail (λ x. test x ≡ true) b bytes all) i) where
   other : (same : Bool) → (b == line_feed) ≡ same → (b == line_feed) ≡ false
   other false e = e
   other true e = cc (All-head (λ x. test x ≡ true) b bytes all, ap test (eqb-true b line_feed e), lacks)
 
-version_within : (minor : ℕ) → minor ≤ 1 → is_within (print_version minor) ≡ true
+pub version_within : (minor : ℕ) → minor ≤ 1 → is_within (print_version minor) ≡ true
 version_within zero l = refl
 version_within (suc zero) l = refl
 version_within (suc (suc minor)) l = absurd (omega arith)

@@ -1,6 +1,7 @@
 mod AnswerLemmas
 mod FieldLemmas
 mod HeadLemmas
+mod PlaceLemmas
 mod ReadingLemmas
 mod ReplyLemmas
 mod TargetLemmas

@@ -3,6 +3,7 @@ pub mod Fields
 pub mod Heads
 pub mod Items
 pub mod Judged
+pub mod Places
 pub mod Reading
 pub mod Replies
 pub mod Routes

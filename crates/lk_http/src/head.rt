@@ -4,8 +4,11 @@ ghost use Rattle.httparse.specs.Grammar.{is_uri_byte, NeverHasRequest};
 ghost use Rattle.std.specs.Option.{option_map};
 ghost use Rattle.lk_http.specs.Heads.{AreOpenBefore, has_field_over, is_empty_line, is_over};
 ghost use Rattle.lk_http.specs.Judged.{IsSeen};
+ghost use Rattle.lk_http.specs.Places.{IsAt, IsBehind};
 ghost use Rattle.lk_http.specs.Targets.{cut_line, ends_in_target, find_feed, is_before_target_end, skip_empty};
+ghost use Rattle.lk_http.specs.declared.head.Seen.{Seen};
 
+use crate::place::Place;
 use httparse::spans::{EMPTY_HEADER_SPAN, parse_request};
 use httparse::{Error, Status, is_method_token, is_uri_token};
 
@@ -26,8 +29,26 @@ pub(crate) const HEAD_LIMIT: usize = 16_384;
 
 const FIELD_LIMIT: usize = 64;
 
+// Judges the bytes of a head that end with a byte behind a place, and of which all shorter fronts wanted more.
+// The grammar is asked only where the place does not tell.
+pub(crate) fn judge_next(head: &[u8], byte: u8, place: &mut Place) -> Seen
+    requires early { AreOpenBefore (length head.now) head.now }
+    requires behind { IsBehind head.now byte place.old }
+    ensures seen { IsSeen head.now result }
+    ensures place { result ≡ Seen.Open → IsAt head.now place.new }
+{
+    if head.len() < HEAD_LIMIT {
+        if let Some(next) = place.step(byte) {
+            *place = next;
+            return Seen::Open;
+        }
+    }
+    *place = place.after(byte);
+    judge(head)
+}
+
 // Judges the bytes of a head, of which all shorter fronts wanted more.
-pub(crate) fn judge(head: &[u8]) -> Seen
+fn judge(head: &[u8]) -> Seen
     requires { AreOpenBefore (length head.now) head.now }
     ensures { IsSeen head.now result }
 {

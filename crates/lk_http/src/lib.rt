@@ -6,6 +6,7 @@ mod conn;
 mod faults;
 mod fields;
 mod head;
+mod place;
 mod reading;
 mod reply;
 mod request;

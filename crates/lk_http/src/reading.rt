@@ -7,7 +7,8 @@ ghost use Rattle.lk_http.specs.Reading.{IsBodyRead, IsByteRead, IsHeadRead};
 ghost use Rattle.lk_http.specs.declared.faults.HttpFault.{HttpFault};
 
 use crate::faults::HttpFault;
-use crate::head::{HEAD_LIMIT, Seen, judge};
+use crate::head::{HEAD_LIMIT, Seen, judge_next};
+use crate::place::Place;
 use lk_io::Link;
 use lk_val::Bytes;
 use std::alloc::Global;
@@ -34,13 +35,15 @@ pub(crate) fn read_head<L: Link>(link: &mut L, head: &mut Vec<u8>) -> Result<Fro
         Rose (L.Source.faults link.old) (L.Source.faults link.new) }
 {
     head.clear();
+    let mut place = Place::Blank;
     while head.len() < HEAD_LIMIT {
-        match pull_byte(link)? {
-            Some(byte) => push_within(head, byte),
+        let byte = match pull_byte(link)? {
+            Some(byte) => byte,
             None if head.is_empty() => return Ok(Front::Ended),
             None => return Err(HttpFault::Truncated),
-        }
-        match judge(head.as_slice()) {
+        };
+        push_within(head, byte);
+        match judge_next(head.as_slice(), byte, &mut place) {
             Seen::Open => {}
             Seen::Whole => return Ok(Front::Head),
             Seen::TooLong => return Err(HttpFault::H6),
