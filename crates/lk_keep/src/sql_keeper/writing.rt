@@ -63,14 +63,15 @@ fn write_id<S: Alter>(
     Ok(())
 }
 
-// Sets the number, which never falls: a store with a batch of a later number could not be read again.
+// Sets the number, which rises with each save. Where the store holds a save that was reported as failed, a save of the
+// same number is refused, so that nothing is built on rows that no reader has seen.
 fn write_number<S: Alter>(
     transaction: &mut Transaction<'_, S>,
     number: u64,
 ) -> Result<(), KeepFault> {
     let number = as_integer(number)?;
     let changed = transaction.execute(
-        "UPDATE state SET number = ?1 WHERE one = 1 AND number <= ?1",
+        "UPDATE state SET number = ?1 WHERE one = 1 AND number < ?1",
         params![number],
     )?;
     if changed != 1 {
