@@ -30,7 +30,7 @@ fn cap_of(word: &str) -> Result<Option<u64>, CaseFault> {
 
 fn answer(alloc: Global, joins: &str, cap: Option<u64>, tables: &str) -> Result<Text, CaseFault> {
     let sources = sources_of(alloc, tables)?;
-    let explore = explore_of(alloc, joins, sources.stored.len())?;
+    let explore = explore_of(alloc, joins, tables.split('|').count())?;
     let mut numbers = Items::new(alloc);
     for number in 0..explore.joins.len() {
         numbers.push(u32::try_from(number).or(Err(CaseFault::NoSuchCase))?)?;

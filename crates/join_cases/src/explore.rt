@@ -36,7 +36,7 @@ fn parts_of(alloc: Global, count: usize) -> Result<Items<Part>, CaseFault> {
     for number in 0..count {
         parts.push(Part {
             name: Text::from_str(alloc, "table")?,
-            origin: Origin::Stored(u32::try_from(number).or(Err(CaseFault::NoSuchCase))?),
+            origin: Origin::Derived(u32::try_from(number).or(Err(CaseFault::NoSuchCase))?),
             key: None,
             enforced: None,
         })?;

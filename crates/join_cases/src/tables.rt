@@ -1,22 +1,28 @@
-ghost use Rattle.std.specs.Prelude.{◌≡◌, IfOk, true};
+ghost use Rattle.std.specs.Prelude.{◌≡◌, [], IfOk, true};
 ghost use Rattle.std.specs.List.{AllPass, list_all};
 ghost use Rattle.lk_types.specs.Dates.{is_dated};
 ghost use Rattle.lk_semantics.specs.DatedRows.{are_rows_dated, are_sources_dated};
 
 use case_lines::CaseFault;
 use lk_cell::{cells_are_of_their_kind, read_cell};
-use lk_types::{Kind, Sources};
+use lk_table::{StoredTables, TableSet};
+use lk_types::Kind;
 use lk_val::{Items, Num, Text, Value};
 use std::alloc::Global;
 
-/// The stored tables that a text writes: tables between bars, rows between commas, cells between spaces.
-pub fn sources_of(alloc: Global, text: &str) -> Result<Sources, CaseFault>
+/// The tables that a text writes, as derived ones: tables between bars, rows between commas, cells between spaces.
+pub fn sources_of(alloc: Global, text: &str) -> Result<TableSet, CaseFault>
     ensures { IfOk result (λ sources. are_sources_dated sources ≡ true) }
 {
-    Ok(Sources {
-        stored: tables_of(alloc, text)?,
-        derived: Items::new(alloc),
-    })
+    let tables = tables_of(alloc, text)?;
+    Ok(set_of(alloc, tables))
+}
+
+// Derived tables alone.
+fn set_of(alloc: Global, tables: Items<Items<Items<Value>>>) -> TableSet
+    ensures { result ≡ record { stored = []; derived = tables } }
+{
+    TableSet::new(StoredTables::new(Items::new(alloc)), tables)
 }
 
 fn tables_of(alloc: Global, text: &str) -> Result<Items<Items<Items<Value>>>, CaseFault>

@@ -1,20 +1,31 @@
 -- A plan's conditions are those of its query, and its answer is what the query is told.
-use Rattle.std.proofs.Common.{◌≡◌, ◌∙◌, ◌≤◌, ℕ, true, false, ◌&&◌, length, sym, ap, subst, arith}
-use Rattle.std.specs.Prelude.{All, Some, nat_lt, Err, if◌then◌else◌}
+use Rattle.std.proofs.Common.{◌≡◌, ◌∙◌, ◌<◌, ◌≤◌, ℕ, ℤ, Bool, true, false, ◌&&◌, List, length, refl, sym, ap, subst, arith}
+use Rattle.std.specs.Prelude.{All, Some, nat_lt, Ok, Err, Result, if◌then◌else◌}
+use Rattle.lk_val.specs.Memory.{IsUnlessMemory, Unless, UnlessMemory}
 use Rattle.lk_types.specs.Dates.{are_literals_dated}
 use Rattle.lk_types.specs.Expressions.{is_true, value_of}
 use Rattle.lk_types.specs.Formula.{Formula}
 use Rattle.lk_types.specs.declared.answer.Answer.{Answer}
+use Rattle.lk_types.specs.declared.answer.Answer.TheVariants as answer
 use Rattle.lk_types.specs.declared.bound.Bound.{Bound}
 use Rattle.lk_types.specs.declared.bound.Plan.{Plan}
 use Rattle.lk_types.specs.declared.explore.Explore.{Explore}
+use Rattle.lk_types.specs.declared.explore.Measure.{Measure}
+use Rattle.lk_types.specs.declared.model.Model.{Model}
 use Rattle.lk_types.specs.declared.rows.Sources.{Sources}
 use Rattle.lk_semantics.specs.Answers.{answer_of}
+use Rattle.lk_semantics.specs.Derived.{explore_at}
 use Rattle.lk_semantics.specs.Joins.{is_met, joined_rows}
 use Rattle.lk_semantics.specs.Rows.{passes_all, visible_rows}
-use Rattle.lk_exec.specs.Visits.{IsWithin}
+use Rattle.lk_exec.specs.Visits.{IsOver, IsWithin}
+use Rattle.lk_filter.specs.PlacedModel.{placed_explore, placed_model}
 use Rattle.lk_gather.specs.Asked.{IsPlan}
-use Rattle.lk_ask.specs.Asks.{told_by, told_over}
+use Rattle.lk_gather.proofs.PlacedLaws.{measure_is}
+use Rattle.lk_query.specs.Bindings.{IsBodyBound}
+use Rattle.lk_schema.specs.declared.users.Users.{Users}
+use Rattle.lk_ask.specs.Asks.{IsAsked, is_no_memory, told_by, told_over}
+use Rattle.lk_ask.specs.declared.fault.AskFault.{AskFault}
+use Rattle.lk_ask.specs.declared.told.Told.{Told}
 use Rattle.lk_ask.specs.declared.fault.AskFault.TheVariants as fault
 
 pub is_plan : (x : Explore) (s : Sources) (b : Bound) (visible passing : Formula) (plan : Plan)
@@ -29,10 +40,48 @@ is_plan x s b visible passing plan b_is visible_is passing_is sees counts visibl
 not_more : (most n : ℕ) → n ≤ most → nat_lt most n ≡ false
 not_more most n h = grind arith
 
-pub told_is : (x : Explore) (s : Sources) (b other : Bound) (a : Answer) → other ≡ b → a ≡ answer_of x s other
+-- at each moment the measures have the same names
+named : (now : ℤ) (x : Explore) (b : Bound) (a : Answer) → told_by x b a ≡ told_by (placed_explore now x) b a
+named now x b (answer.Table rows complete) = refl
+named now x b (answer.Duplicate n key) = ap (λ (k : Measure). Err (fault.Q9 k.name key)) (sym (measure_is now x n))
+
+within_is : (x : Explore) (s : Sources) (b other : Bound) (a : Answer) → other ≡ b → a ≡ answer_of x s other
     → IsWithin (Some 1000000) (visible_rows x s other) → told_by x b a ≡ told_over x s b
-told_is x s b other a same is within =
+within_is x s b other a same is within =
     let few : nat_lt 1000000 (length (visible_rows x s b)) ≡ false =
     ap (λ c. nat_lt 1000000 (length (visible_rows x s c))) (sym same) ∙ not_more 1000000 (length (visible_rows x s other)) within in
     ap (told_by x b) (is ∙ ap (answer_of x s) same)
     ∙ sym (ap (λ c. if c then Err fault.Q10 else told_by x b (answer_of x s b)) few)
+
+-- what an answer over the explore at a moment tells
+pub told_is : (now : ℤ) (x : Explore) (s : Sources) (b other : Bound) (a : Answer) → other ≡ b → a ≡ answer_of (placed_explore now x) s other
+    → IsWithin (Some 1000000) (visible_rows (placed_explore now x) s other) → told_by x b a ≡ told_over (placed_explore now x) s b
+told_is now x s b other a same is within = named now x b a ∙ within_is (placed_explore now x) s b other a same is within
+
+more : (most n : ℕ) → most < n → nat_lt most n ≡ true
+more most n h = grind arith
+
+-- and what too many visible rows tell
+pub many_is : (x : Explore) (s : Sources) (b other : Bound) → other ≡ b → IsOver (Some 1000000) (visible_rows x s other) → Err fault.Q10 ≡ told_over x s b
+many_is x s b other same over =
+    let many : nat_lt 1000000 (length (visible_rows x s b)) ≡ true =
+    ap (λ c. nat_lt 1000000 (length (visible_rows x s c))) (sym same) ∙ more 1000000 (length (visible_rows x s other)) over in
+    sym (ap (λ c. if c then Err fault.Q10 else told_by x b (answer_of x s b)) many)
+
+implied : (lost : Bool) (P Q : Type 0) → (P → Q) → Unless lost P → Unless lost Q
+implied true P Q step h = h
+implied false P Q step h = step h
+
+-- what a query that a body binds to at a moment is told then
+pub asked_is : (m : Model) (users : Users) (s : Sources) (user explore body : List ℕ) (at now : ℤ) (b : Bound) (result : Result Told AskFault) → at ≡ now
+    → IsBodyBound m users user explore body at (Ok b) → IsUnlessMemory is_no_memory result (told_over (explore_at (placed_model at m) b.explore) s b)
+    → UnlessMemory is_no_memory result (IsAsked m users s user explore body now)
+asked_is m users s user explore body at now b result same bound told = by_case result told
+  where
+    asked : (r : Result Told AskFault) → r ≡ told_over (explore_at (placed_model at m) b.explore) s b → IsAsked m users s user explore body now r
+    asked r is = subst (λ n. IsAsked m users s user explore body n r) same (record { bound = Ok b; is_bound = bound; is = is })
+
+    by_case : (r : Result Told AskFault) → IsUnlessMemory is_no_memory r (told_over (explore_at (placed_model at m) b.explore) s b)
+        → UnlessMemory is_no_memory r (IsAsked m users s user explore body now)
+    by_case (Ok told) is = asked (Ok told) is
+    by_case (Err fault) is = implied (is_no_memory fault) _ _ (asked (Err fault)) is

@@ -35,8 +35,9 @@ over_bound : (x : Explore) (b : Bound) (many : Bool) (a : Answer) → of_bound b
 over_bound x b true a = tt
 over_bound x b false a = by_bound x b a
 
-pub told_in_model : (m : Model) (s : Sources) (told : Told) (bound : Result Bound QueryFault) → Ok told ≡ told_of m s bound
+pub told_in_model : (m placed : Model) (s : Sources) (told : Told) (bound : Result Bound QueryFault) → Ok told ≡ told_of placed s bound
     → (P : Result Bound QueryFault → Type 0) → P bound → ((b : Bound) → P (Ok b) → IsInModel m b) → IsInModel m told.bound
-told_in_model m s told (Err f) is P holds in_model = absurd (subst is_told is tt)
-told_in_model m s told (Ok b) is P holds in_model =
-    subst (IsInModel m) (sym (subst (of_bound b) (sym is) (over_bound (explore_at m b.explore) b (nat_lt 1000000 (length (visible_rows (explore_at m b.explore) s b))) (answer_of (explore_at m b.explore) s b)))) (in_model b holds)
+told_in_model m placed s told (Err f) is P holds in_model = absurd (subst is_told is tt)
+told_in_model m placed s told (Ok b) is P holds in_model =
+    let x = explore_at placed b.explore in
+    subst (IsInModel m) (sym (subst (of_bound b) (sym is) (over_bound x b (nat_lt 1000000 (length (visible_rows x s b))) (answer_of x s b)))) (in_model b holds)

@@ -4,6 +4,7 @@ ghost use Rattle.lk_types.specs.Dates.{IsMomentInYears};
 ghost use Rattle.lk_semantics.specs.Answers.{measure_at};
 ghost use Rattle.lk_semantics.specs.Derived.{explore_at};
 ghost use Rattle.lk_semantics.specs.Resolved.{IsInModel, IsResolved};
+ghost use Rattle.lk_filter.specs.PlacedModel.{placed_model};
 ghost use Rattle.lk_ask.specs.Asks.{HasTables, IsAsked, is_no_memory, told_by, told_over};
 
 use crate::fault::{AskFault, refused};
@@ -13,7 +14,8 @@ use lk_gather::{answer, resolved_explores_are_fine};
 use lk_plan::{compile, conditions_are_dated, joined_rows_meet_conditions};
 use lk_query::{bind_body, bound_queries_are_in_their_model, resolved_models_have_few_joins};
 use lk_schema::Users;
-use lk_types::{Answer, Bound, Explore, Model, Sources};
+use lk_table::TableSet;
+use lk_types::{Answer, Bound, Explore, Model};
 use lk_val::{NoMemory, Text};
 use std::alloc::Global;
 
@@ -22,13 +24,14 @@ const MOST_ROWS: u64 = 1_000_000;
 
 /// What a caller's body over an explore is told over the tables of a resolved model, or its first refusal: those of its
 /// binding (Q2, Q1, Q3, Q8, Q4, Q5, Q6, Q7), then more than 1,000,000 visible rows (Q10), then two values of a measure
-/// for one key (Q9). `now` counts seconds from 1970-01-01 00:00:00 UTC, and `sources` are the stored tables with the rows
-/// of the derived ones. (lookd)
+/// for one key (Q9). `now` counts seconds from 1970-01-01 00:00:00 UTC: relative dates stand for the days that they name
+/// then, those of the query's own filters and those of the model's. `sources` are the stored tables with the rows of the
+/// derived ones. (lookd)
 pub fn ask(
     alloc: Global,
     m: &Model,
     users: &Users,
-    sources: &Sources,
+    sources: &TableSet,
     user: &Text,
     explore: &Text,
     body: &[u8],
@@ -44,23 +47,30 @@ pub fn ask(
         Err(fault) => Err(refused(fault)),
         Ok(bound) => {
             bound_queries_are_in_their_model();
-            answer_bound(alloc, m, sources, bound)
+            answer_bound(alloc, m, sources, bound, now)
         }
     }
 }
 
-fn answer_bound(alloc: Global, m: &Model, sources: &Sources, bound: Bound) -> Result<Told, AskFault>
+fn answer_bound(
+    alloc: Global,
+    m: &Model,
+    sources: &TableSet,
+    bound: Bound,
+    now: i64,
+) -> Result<Told, AskFault>
     requires model { IsResolved m.now }
     requires bound { IsInModel m.now bound }
     requires tables { HasTables m.now sources.now }
-    ensures { IsUnlessMemory is_no_memory result (told_over (explore_at m.now bound.explore) sources.now bound) }
+    ensures { IsUnlessMemory is_no_memory result
+        (told_over (explore_at (placed_model now m.now) bound.explore) sources.now bound) }
 {
     resolved_explores_are_fine();
     joined_rows_meet_conditions();
     conditions_are_dated();
     let plan = compile(alloc, m, &bound)?;
     let x = explore_of(m, bound.explore);
-    match answer(alloc, x, sources, &plan, Some(MOST_ROWS)) {
+    match answer(alloc, x, sources, &plan, Some(MOST_ROWS), now) {
         Err(ExecFault::Many) => Err(AskFault::Q10),
         Err(ExecFault::NoMemory) => Err(AskFault::NoMemory),
         Ok(answer) => told_by(alloc, x, bound, answer),

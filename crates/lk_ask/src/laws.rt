@@ -3,9 +3,11 @@ ghost use Rattle.lk_types.specs.Dates.{IsMomentInYears};
 ghost use Rattle.lk_types.specs.declared.bound.Bound.{Bound};
 ghost use Rattle.lk_types.specs.declared.model.Model.{Model};
 ghost use Rattle.lk_types.specs.declared.rows.Sources.{Sources};
-ghost use Rattle.lk_semantics.specs.Derived.{explore_at};
+ghost use Rattle.lk_types.specs.declared.rows.Tables.{Tables};
+ghost use Rattle.lk_semantics.specs.Derived.{explore_at, sources_of};
 ghost use Rattle.lk_semantics.specs.Resolved.{IsInModel, IsResolved};
 ghost use Rattle.lk_semantics.specs.Rows.{visible_rows};
+ghost use Rattle.lk_filter.specs.PlacedModel.{placed_model};
 ghost use Rattle.lk_schema.specs.declared.users.Users.{Users};
 ghost use Rattle.lk_ask.specs.Asks.{IsAsked, told_of};
 ghost use Rattle.lk_ask.specs.declared.fault.AskFault.{AskFault};
@@ -29,10 +31,18 @@ pub fn told_queries_are_in_their_model()
     bound_queries_are_in_their_model();
 }
 
-/// What a query is told depends on the tables only through the rows that its caller sees: over tables in which these are
-/// the same it is told the same, its refusals among it. A law: it computes nothing.
+/// What a query is told at a moment depends on the tables only through the rows that its caller sees: over tables in
+/// which these are the same it is told the same, its refusals among it. A law: it computes nothing.
 pub fn visible_rows_decide_what_is_told()
-    ensures { (m : Model) (s t : Sources) (b : Bound)
-        → visible_rows (explore_at m b.explore) s b ≡ visible_rows (explore_at m b.explore) t b
-        → told_of m s (Ok b) ≡ told_of m t (Ok b) }
+    ensures { (m : Model) (now : ℤ) (s t : Sources) (b : Bound)
+        → visible_rows (explore_at (placed_model now m) b.explore) s b ≡ visible_rows (explore_at (placed_model now m) b.explore) t b
+        → told_of (placed_model now m) s (Ok b) ≡ told_of (placed_model now m) t (Ok b) }
+{}
+
+/// The rows that a query sees are the same at each moment, and so are those of a resolved model's derived tables: what
+/// they are made of has no relative dates. A law: it computes nothing.
+pub fn rows_depend_on_no_moment()
+    ensures visible { (m : Model) (now : ℤ) (s : Sources) (b : Bound)
+        → visible_rows (explore_at (placed_model now m) b.explore) s b ≡ visible_rows (explore_at m b.explore) s b }
+    ensures derived { (m : Model) (now : ℤ) (t : Tables) → IsResolved m → sources_of (placed_model now m) t ≡ sources_of m t }
 {}

@@ -2,4 +2,3 @@ pub mod Operands
 pub mod Patterns
 pub mod NodeValues
 pub mod NodeKinds
-pub mod CellValues

@@ -1,25 +1,26 @@
 ghost use Rattle.std.specs.Prelude.{◌≡◌};
+ghost use Rattle.lk_val.specs.ValueRefs.{value_of_ref};
 ghost use Rattle.lk_types.specs.Expressions.{apply, computed, negated, value_of_num};
 
 use lk_types::Arithmetic;
-use lk_val::{Num, Value};
+use lk_val::{Num, Value, ValueRef};
 
 // An operation on two numbers; null for other values, out of range, and divided by 0.
-pub(crate) fn apply(op: Arithmetic, a: &Value, b: &Value) -> Value
-    ensures { result ≡ apply op a.now b.now }
+pub(crate) fn apply(op: Arithmetic, a: ValueRef<'_>, b: ValueRef<'_>) -> Value
+    ensures { result ≡ apply op (value_of_ref a.entry) (value_of_ref b.entry) }
 {
     match (a, b) {
-        (Value::Num(a), Value::Num(b)) => value_of_num(computed(op, *a, *b)),
+        (ValueRef::Num(a), ValueRef::Num(b)) => value_of_num(computed(op, a, b)),
         _ => Value::Null,
     }
 }
 
 // A number with the other sign; null for other values and out of range.
-pub(crate) fn negated(v: &Value) -> Value
-    ensures { result ≡ negated v.now }
+pub(crate) fn negated(v: ValueRef<'_>) -> Value
+    ensures { result ≡ negated (value_of_ref v.entry) }
 {
     match v {
-        Value::Num(num) => value_of_num(num.neg()),
+        ValueRef::Num(num) => value_of_num(num.neg()),
         _ => Value::Null,
     }
 }

@@ -1,17 +1,18 @@
 ghost use Rattle.std.specs.Prelude.{◌≡◌};
+ghost use Rattle.lk_val.specs.ValueRefs.{value_of_ref};
 ghost use Rattle.lk_val.specs.Values.{value_cmp, is_null};
 ghost use Rattle.lk_types.specs.Expressions.{beside, compared, holds};
 
 use lk_types::Comparison;
-use lk_val::{Value, cmp_value};
+use lk_val::ValueRef;
 use std::cmp::Ordering;
 
 // How many seconds a day has.
 const DAY: i64 = 86_400;
 
 // Whether a comparison of two values holds; unknown beside null. A day beside a moment is its midnight.
-pub(crate) fn compared(comparison: Comparison, a: &Value, b: &Value) -> Option<bool>
-    ensures { result ≡ compared comparison a.now b.now }
+pub(crate) fn compared(comparison: Comparison, a: ValueRef<'_>, b: ValueRef<'_>) -> Option<bool>
+    ensures { result ≡ compared comparison (value_of_ref a.entry) (value_of_ref b.entry) }
 {
     if is_null(a) || is_null(b) {
         return None;
@@ -20,22 +21,23 @@ pub(crate) fn compared(comparison: Comparison, a: &Value, b: &Value) -> Option<b
 }
 
 // Whether a value is null.
-pub(crate) fn is_null(v: &Value) -> bool
-    ensures { result ≡ is_null v.now }
+pub(crate) fn is_null(v: ValueRef<'_>) -> bool
+    ensures { result ≡ is_null (value_of_ref v.entry) }
 {
     match v {
-        Value::Null => true,
+        ValueRef::Null => true,
         _ => false,
     }
 }
 
-fn cmp_beside(a: &Value, b: &Value) -> Ordering
-    ensures { result ≡ value_cmp (beside a.now b.now) (beside b.now a.now) }
+fn cmp_beside(a: ValueRef<'_>, b: ValueRef<'_>) -> Ordering
+    ensures { result ≡ value_cmp (beside (value_of_ref a.entry) (value_of_ref b.entry))
+        (beside (value_of_ref b.entry) (value_of_ref a.entry)) }
 {
     match (a, b) {
-        (Value::Day(day), Value::Moment(moment)) => (i64::from(*day) * DAY).cmp(moment),
-        (Value::Moment(moment), Value::Day(day)) => moment.cmp(&(i64::from(*day) * DAY)),
-        _ => cmp_value(a, b),
+        (ValueRef::Day(day), ValueRef::Moment(moment)) => (i64::from(day) * DAY).cmp(&moment),
+        (ValueRef::Moment(moment), ValueRef::Day(day)) => moment.cmp(&(i64::from(day) * DAY)),
+        _ => a.cmp(b),
     }
 }
 

@@ -1,6 +1,7 @@
 // The truth values of conditions.
 
 ghost use Rattle.std.specs.Prelude.{◌≡◌, true, drop, length, map};
+ghost use Rattle.lk_val.specs.ValueRefs.{value_of_ref};
 ghost use Rattle.lk_types.specs.Expressions.{is_one_of, value_of_truth};
 ghost use Rattle.lk_types.specs.FormulaNodes.{arity};
 ghost use Rattle.lk_types.specs.declared.rows.Joined.{Joined};
@@ -12,7 +13,7 @@ use crate::like::like;
 use crate::operand::{Operand, nth};
 use crate::truth::{and_of, not_of, or_of, truth_of};
 use lk_types::{Comparison, Node};
-use lk_val::Value;
+use lk_val::ValueRef;
 
 // The truth value of a condition; nothing is said of other nodes.
 pub(crate) fn truth_made(node: &Node, operands: &[Operand<'_>]) -> Option<bool>
@@ -47,8 +48,8 @@ fn is_in(operands: &[Operand<'_>]) -> Option<bool>
 }
 
 // Whether a value is one of some: yes where it equals one, and else unknown where a comparison is.
-fn is_one_of(v: &Value, items: &[Operand<'_>]) -> Option<bool>
-    ensures { result ≡ is_one_of v.now (map operand_value items.now) }
+fn is_one_of(v: ValueRef<'_>, items: &[Operand<'_>]) -> Option<bool>
+    ensures { result ≡ is_one_of (value_of_ref v.entry) (map operand_value items.now) }
 {
     let mut found = Some(false);
     let mut left = items.len();

@@ -2,7 +2,7 @@ ghost use Rattle.std.specs.Prelude.{◌≡◌, [], true, false, IfOk, length, ma
 ghost use Rattle.std.specs.List.{list_all};
 ghost use Rattle.lk_postfix.specs.Postfix.{after_nodes, is_whole};
 ghost use Rattle.lk_types.specs.Dates.{are_literals_dated, is_dated, is_row_dated};
-ghost use Rattle.lk_types.specs.Expressions.{column_of, value_of};
+ghost use Rattle.lk_types.specs.Expressions.{value_of};
 ghost use Rattle.lk_types.specs.FormulaNodes.{arity};
 ghost use Rattle.lk_types.specs.declared.rows.Joined.{Joined};
 ghost use Rattle.lk_eval.specs.NodeValues.{is_borrowed, is_node_dated, operand, value_made};
@@ -47,7 +47,7 @@ fn lowest(alloc: Global, stack: &[Operand<'_>]) -> Result<Value, NoMemory>
     ensures { IfOk result (λ v. v ≡ operand (map operand_value stack.now) 0) }
 {
     match stack.get(0) {
-        Some(value) => value.value().copy(alloc),
+        Some(value) => value.value().to_value(alloc),
         None => Ok(Value::Null),
     }
 }
@@ -84,8 +84,8 @@ fn value_made<'a, R: HasCells>(
     ensures { IfOk result (λ made. operand_value made ≡ value_made (R.row_of row.now) node.now (map operand_value operands.now)) }
 {
     match node {
-        Node::Column(part, column) => Ok(cell_of(row, *part, *column)),
-        Node::Literal(v) => Ok(Operand::Held(v)),
+        Node::Column(part, column) => Ok(Operand::Held(row.cell(*part, *column))),
+        Node::Literal(v) => Ok(Operand::Held(v.as_ref())),
         Node::Case(_) => first_chosen(alloc, operands),
         Node::Coalesce(_) => first_known(alloc, operands),
         Node::NullIf => null_if(alloc, operands),
@@ -100,22 +100,12 @@ fn computed(alloc: Global, node: &Node, operands: &[Operand<'_>]) -> Result<Valu
     ensures { IfOk result (λ v. (row : Joined) → is_borrowed node.now ≡ false → v ≡ value_made row node.now (map operand_value operands.now)) }
 {
     match node {
-        Node::Framed(f) => timeframe_of(alloc, *f, nth(operands, 0)),
+        Node::Framed(f) => timeframe_of(alloc, *f, &nth(operands, 0).to_value(alloc)?),
         Node::Number(op) => Ok(apply(*op, nth(operands, 0), nth(operands, 1))),
         Node::Negate => Ok(negated(nth(operands, 0))),
         Node::Concat => joined_text(alloc, nth(operands, 0), nth(operands, 1)),
         Node::Lower => lower_text(alloc, nth(operands, 0)),
         Node::Upper => upper_text(alloc, nth(operands, 0)),
         _ => Ok(value_of_truth(truth_made(node, operands))),
-    }
-}
-
-// The value in a column of a part: null where the part is null or has not entered.
-fn cell_of<R: HasCells>(row: &R, part: u32, column: u32) -> Operand<'_>
-    ensures { operand_value result ≡ column_of (R.row_of row.now) part column }
-{
-    match row.cell(part, column) {
-        Some(v) => Operand::Held(v),
-        None => Operand::Made(Value::Null),
     }
 }

@@ -1,10 +1,11 @@
 ghost use Rattle.std.specs.Prelude.{◌≡◌, ◌≤◌, ◌∷◌, List, IfOk, length};
+ghost use Rattle.lk_val.specs.ValueRefs.{value_of_ref};
 ghost use Rattle.lk_types.specs.Expressions.{like};
 ghost use Rattle.lk_types.specs.declared.expr.Piece.{Piece};
 ghost use Rattle.lk_eval.specs.Patterns.{pattern_of, pattern_text};
 
 use lk_types::{Piece, matches};
-use lk_val::{Items, NoMemory, Text, Value};
+use lk_val::{Items, NoMemory, Text, ValueRef};
 use std::alloc::Global;
 
 /// The pattern that the text behind a LIKE stands for: `%` any characters, `_` one character, and `^` quotes what is
@@ -44,11 +45,11 @@ pub fn each_pattern_has_a_text()
 {}
 
 // Whether a text matches a pattern; unknown for other values.
-pub(crate) fn like(v: &Value, pieces: &[Piece]) -> Option<bool>
-    ensures { result ≡ like v.now pieces.now }
+pub(crate) fn like(v: ValueRef<'_>, pieces: &[Piece]) -> Option<bool>
+    ensures { result ≡ like (value_of_ref v.entry) pieces.now }
 {
     match v {
-        Value::Text(text) => Some(matches(pieces, text.as_bytes())),
+        ValueRef::Text(text) => Some(matches(pieces, text.as_bytes())),
         _ => None,
     }
 }

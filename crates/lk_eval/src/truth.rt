@@ -1,16 +1,17 @@
 // The three truth values: yes, no and unknown, which is none here and null as a value.
 
 ghost use Rattle.std.specs.Prelude.{◌≡◌};
+ghost use Rattle.lk_val.specs.ValueRefs.{value_of_ref};
 ghost use Rattle.lk_types.specs.Expressions.{truth_of, value_of_truth, and_of, or_of, not_of, is_true, is_true_truth};
 
-use lk_val::Value;
+use lk_val::{Value, ValueRef};
 
 // The truth value of a value; unknown where it is null.
-pub(crate) fn truth_of(v: &Value) -> Option<bool>
-    ensures { result ≡ truth_of v.now }
+pub(crate) fn truth_of(v: ValueRef<'_>) -> Option<bool>
+    ensures { result ≡ truth_of (value_of_ref v.entry) }
 {
     match v {
-        Value::Truth(truth) => Some(*truth),
+        ValueRef::Truth(truth) => Some(truth),
         _ => None,
     }
 }
@@ -54,11 +55,11 @@ pub(crate) fn not_of(a: Option<bool>) -> Option<bool>
 }
 
 // Whether a value is yes, and neither no nor unknown.
-pub(crate) fn is_true(v: &Value) -> bool
-    ensures { result ≡ is_true v.now }
+pub(crate) fn is_true(v: ValueRef<'_>) -> bool
+    ensures { result ≡ is_true (value_of_ref v.entry) }
 {
     match v {
-        Value::Truth(truth) => *truth,
+        ValueRef::Truth(truth) => truth,
         _ => false,
     }
 }

@@ -1,5 +1,5 @@
--- The rows of a plan's conditions are those of its query, and its groups ascend.
-use Rattle.std.proofs.Common.{◌≡◌, ◌∙◌, ℕ, zero, suc, Bool, true, false, cond, ◌&&◌, arith, List, [], ◌∷◌, map, refl, sym, ap, subst}
+-- The rows of a plan's conditions are those of its query at each moment, and its groups ascend.
+use Rattle.std.proofs.Common.{◌≡◌, ◌∙◌, ℕ, ℤ, zero, suc, Bool, true, false, cond, ◌&&◌, arith, List, [], ◌∷◌, map, refl, sym, ap, subst}
 use Rattle.std.specs.Prelude.{All, filter}
 use Rattle.std.specs.List.Sorted.{IsStrictlySortedBy}
 use Rattle.lk_val.specs.Values.{tuple_cmp}
@@ -18,7 +18,9 @@ use Rattle.lk_semantics.specs.Joins.{is_met, joined_rows}
 use Rattle.lk_semantics.specs.Measures.{group_row, group_rows, groups_of}
 use Rattle.lk_semantics.specs.Rows.{passes_all, passing_rows, visible_rows}
 use Rattle.lk_exec.specs.Visits.{rows_where}
+use Rattle.lk_filter.specs.PlacedModel.{placed_explore}
 use Rattle.lk_gather.specs.Asked.{IsPlan, does_pass}
+use Rattle.lk_gather.proofs.PlacedLaws.{visible_are}
 
 -- ---- groups
 
@@ -55,9 +57,14 @@ same_kept p q keep (row ∷ rows) same =
       | false ↦ rest
     ]
 
-module _ (x : Explore) (s : Sources) (plan : Plan) (h : IsPlan x s plan) where
-  pub seen_are : rows_where plan.visible (joined_rows x s plan.bound.joins) ≡ visible_rows x s plan.bound
-  seen_are = same_rows (λ row. is_true (value_of plan.visible row)) (passes_all x plan.bound.access) (joined_rows x s plan.bound.joins) h.visible
+module _ (now : ℤ) (x : Explore) (s : Sources) (plan : Plan) (h : IsPlan x s plan) where
+  abbrev y : Explore
+  y = placed_explore now x
+
+  pub seen_are : rows_where plan.visible (joined_rows x s plan.bound.joins) ≡ visible_rows y s plan.bound
+  seen_are =
+      same_rows (λ row. is_true (value_of plan.visible row)) (passes_all x plan.bound.access) (joined_rows x s plan.bound.joins) h.visible
+      ∙ sym (visible_are now x s plan.bound)
 
   passing_are : filter (does_pass plan) (visible_rows x s plan.bound) ≡ passing_rows x plan.bound.rows (visible_rows x s plan.bound)
   passing_are =
@@ -65,5 +72,8 @@ module _ (x : Explore) (s : Sources) (plan : Plan) (h : IsPlan x s plan) where
       (joined_rows x s plan.bound.joins) h.passing
 
   -- the answer over the passing ones of the rows that were visited
-  pub answer_is : answer_over x plan.bound (filter (does_pass plan) (rows_where plan.visible (joined_rows x s plan.bound.joins))) ≡ answer_of x s plan.bound
-  answer_is = ap (answer_over x plan.bound) (ap (filter (does_pass plan)) seen_are ∙ passing_are)
+  pub answer_is : answer_over y plan.bound (filter (does_pass plan) (rows_where plan.visible (joined_rows x s plan.bound.joins))) ≡ answer_of y s plan.bound
+  answer_is =
+      ap (answer_over y plan.bound)
+      (ap (filter (does_pass plan)) (seen_are ∙ visible_are now x s plan.bound) ∙ passing_are
+      ∙ ap (passing_rows x plan.bound.rows) (sym (visible_are now x s plan.bound)))

@@ -35,7 +35,7 @@ tests_fine x (f ∷ fs) [] h = absurd h
 tests_fine x (f ∷ fs) (t ∷ ts) h = both (is_fine_dim t.dim) (are_fine_tests ts) h.0.dim.fine (tests_fine x fs ts h.1)
 
 one_met : (x : Explore) (row : Joined) (f : ℕ × Filter) (t : FieldTest) → IsTest x f t → is_met_by row t ≡ passes f.1 (dim_value x row f.0)
-one_met x row f t h = ap (λ g. passes g (dim_of t.dim row)) h.filter ∙ ap (passes f.1) (h.dim.value row)
+one_met x row f t h = h.filter (dim_of t.dim row) ∙ ap (passes f.1) (h.dim.value row)
 
 pub tests_met : (x : Explore) (row : Joined) (fs : List (ℕ × Filter)) (ts : List FieldTest) → AreTests x fs ts
     → list_all (is_met_by row) ts ≡ passes_all x fs row

@@ -1,3 +1,4 @@
+pub mod PlacedLaws
 pub mod DimLaws
 pub mod MeasureLaws
 pub mod GatherLaws

@@ -1,5 +1,5 @@
 -- Measures that were made ready one after the other.
-use Rattle.std.proofs.Common.{◌≡◌, ◌∙◌, ℕ, true, false, not, ◌&&◌, ◌||◌, List, [], ◌∷◌, map, refl, ap, Bor}
+use Rattle.std.proofs.Common.{◌≡◌, ◌∙◌, ℕ, ℤ, true, false, not, ◌&&◌, ◌||◌, List, [], ◌∷◌, map, refl, sym, ap, Bor}
 use Rattle.std.specs.Prelude.{Option, Some, None, option_map, if◌then◌else◌}
 use Rattle.std.specs.List.{list_all}
 use Rattle.lk_types.specs.Expressions.{value_of}
@@ -15,7 +15,9 @@ use Rattle.lk_gather.specs.Dims.{AreTests, are_fine_tests, is_fine_field, is_met
 use Rattle.lk_gather.specs.Measures.{AreTaken, IsTaken, has_wanted, is_fine_explore, is_fine_measure, is_fine_part, is_fine_taken, taken_of}
 use Rattle.lk_gather.specs.declared.measures.Taken.{Taken}
 use Rattle.lk_semantics.proofs.EveryLaws.{both, first, second, every-at}
+use Rattle.lk_filter.specs.PlacedModel.{placed_explore, placed_measure}
 use Rattle.lk_gather.proofs.DimLaws.{tests_fine, tests_met}
+use Rattle.lk_gather.proofs.PlacedLaws.{key_value_is}
 
 -- ---- what an explore's fields, measures and parts are
 
@@ -69,6 +71,11 @@ is_taken x m t fine dated key value tests wanted = record {
       (both (is_condition_dated (option_map (λ e. e.now) t.value)) (are_fine_tests t.tests)
       (ap is_condition_dated value ∙ first (is_condition_dated m.value) (is_condition_dated m.key) dated) (tests_fine x m.filters t.tests tests));
 }
+
+-- what gives a placed measure of an explore gives the measure of the placed explore
+pub taken_placed : (now : ℤ) (x : Explore) (n : ℕ) (t : Taken) → IsTaken x (placed_measure now (measure_at x n)) t
+    → IsTaken (placed_explore now x) (measure_at (placed_explore now x) n) t
+taken_placed now x n t h = record { value = λ row. h.value row ∙ sym (key_value_is now x n row); fine = h.fine }
 
 pub all_fine : (x : Explore) (ns : List ℕ) (ts : List Taken) → AreTaken x ns ts → list_all is_fine_taken ts ≡ true
 all_fine x [] [] h = refl

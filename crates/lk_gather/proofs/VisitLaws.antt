@@ -1,5 +1,5 @@
 -- A visitor that was given no row before, after its visit.
-use Rattle.std.proofs.Common.{◌≡◌, ℕ, List, [], length, refl, subst, arith}
+use Rattle.std.proofs.Common.{◌≡◌, ◌∙◌, ℕ, ℤ, List, [], ap, length, refl, subst, sym, arith}
 use Rattle.std.specs.Prelude.{Option, Some, None, Result, Ok, Err, IfOk}
 use Rattle.lk_types.specs.declared.bound.Plan.{Plan}
 use Rattle.lk_types.specs.declared.explore.Explore.{Explore}
@@ -12,25 +12,39 @@ use Rattle.lk_exec.specs.declared.visit.ExecFault.TheVariants.{Many}
 use Rattle.lk_agg.specs.Gathering.{HasTaken}
 use Rattle.lk_agg.specs.declared.acc.Acc.{Acc}
 use Rattle.lk_types.specs.declared.rows.Sources.{Sources}
+use Rattle.lk_filter.specs.PlacedModel.{placed_explore}
 use Rattle.lk_gather.specs.Gathers.{HasGathered, HasVisited, rows_seen}
+use Rattle.lk_gather.proofs.PlacedLaws.{ops_are as same_ops, query_components_are}
 
 pub none_within : (most : Option ℕ) → IsWithin most []
 none_within None = tt
 none_within (Some n) = omega arith
 
 -- an accumulator of the query's dimensions and components that was given no row
-pub begun : (x : Explore) (plan : Plan) (acc : Acc) (dims : ℕ) (ops : List Op) → HasTaken acc dims ops []
+begun : (x : Explore) (plan : Plan) (acc : Acc) (dims : ℕ) (ops : List Op) → HasTaken acc dims ops []
     → dims ≡ length (dims_of plan.bound.picks) → ops ≡ ops_of x (query_components x plan.bound) → HasGathered x plan acc 0 []
 begun x plan acc dims ops taken dims_are ops_are = record {
   taken = subst (λ d. HasTaken acc d (ops_of x (query_components x plan.bound)) []) dims_are (subst (λ o. HasTaken acc dims o []) ops_are taken);
   places = refl;
 }
 
--- what was visited of an explore and a plan was visited of those that are equal to them
-pub moved : (x y : Explore) (plan other : Plan) (s : Sources) (most : Option ℕ) (acc : Acc) → x ≡ y → plan ≡ other
-    → HasVisited x plan most (rows_seen x s plan) acc → HasVisited y other most (rows_seen y s other) acc
-moved x y plan other s most acc x_is plan_is h =
-    subst (λ p. HasVisited y p most (rows_seen y s p) acc) plan_is (subst (λ z. HasVisited z plan most (rows_seen z s plan) acc) x_is h)
+-- so it is at each moment, and of what is equal to the explore and the plan
+pub begun_at : (now : ℤ) (x other : Explore) (plan made : Plan) (acc : Acc) (dims : ℕ) (ops : List Op) → HasTaken acc dims ops []
+    → dims ≡ length (dims_of plan.bound.picks) → ops ≡ ops_of x (query_components x plan.bound) → other ≡ x → made ≡ plan → HasGathered (placed_explore now other) made acc 0 []
+begun_at now x other plan made acc dims ops taken dims_are ops_are other_is made_is =
+    let y = placed_explore now x in
+    let ops_then : ops ≡ ops_of y (query_components y plan.bound) =
+    ops_are ∙ sym (same_ops now x (query_components x plan.bound)) ∙ ap (ops_of y) (sym (query_components_are now x plan.bound)) in
+    subst (λ p. HasGathered (placed_explore now other) p acc 0 []) (sym made_is)
+    (subst (λ z. HasGathered (placed_explore now z) plan acc 0 []) (sym other_is) (begun y plan acc dims ops taken dims_are ops_then))
+
+-- what was visited of an explore and a plan at a moment was visited of those that are equal to them
+pub moved : (at now : ℤ) (x y : Explore) (plan other : Plan) (s : Sources) (most : Option ℕ) (acc : Acc) → at ≡ now → x ≡ y → plan ≡ other
+    → HasVisited (placed_explore at x) plan most (rows_seen x s plan) acc → HasVisited (placed_explore now y) other most (rows_seen y s other) acc
+moved at now x y plan other s most acc now_is x_is plan_is h =
+    subst (λ n. HasVisited (placed_explore n y) other most (rows_seen y s other) acc) now_is
+    (subst (λ p. HasVisited (placed_explore at y) p most (rows_seen y s p) acc) plan_is
+    (subst (λ z. HasVisited (placed_explore at z) plan most (rows_seen z s plan) acc) x_is h))
 
 -- what holds anyway holds where a result is no error
 pub always : {A E : Type 0} (fact : Type 0) (result : Result A E) → fact → IfOk result (λ value. fact)

@@ -17,6 +17,7 @@ use Rattle.lk_gather.specs.declared.dims.Dim.{Dim}
 use Rattle.lk_gather.specs.declared.dims.Finish.{Finish}
 use Rattle.lk_gather.specs.declared.dims.Finish.TheVariants as finish
 use Rattle.lk_gather.specs.declared.dims.FieldTest.{FieldTest}
+use Rattle.lk_gather.specs.Moments.{filter_of}
 
 -- ---- what an explore's fields have to be
 
@@ -67,12 +68,12 @@ AreDims x fs ds = ⊥
 -- ---- filters on fields
 
 abbrev pub is_met_by : Joined → FieldTest → Bool
-is_met_by row t = passes t.filter.now (dim_of t.dim row)
+is_met_by row t = passes (filter_of t.filter) (dim_of t.dim row)
 
--- it is the test of a filter
+-- it is the test of a filter: it passes the same values of the field
 pub record IsTest (x : Explore) (f : ℕ × Filter) (t : FieldTest) : Type 0 where
   pub dim : IsDim (field_at x f.0) t.dim
-  pub filter : t.filter.now ≡ f.1
+  pub filter : (v : Value) → passes (filter_of t.filter) v ≡ passes f.1 v
 
 abbrev pub AreTests : Explore → List (ℕ × Filter) → List FieldTest → Type 0
 AreTests x [] [] = Unit {0}

@@ -2,3 +2,4 @@ pub mod Asked
 pub mod Dims
 pub mod Gathers
 pub mod Measures
+pub mod Moments

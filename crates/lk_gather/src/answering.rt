@@ -1,9 +1,13 @@
-ghost use Rattle.std.specs.Prelude.{◌≡◌, ◌+◌, ℕ, IfErr, IfOk, List, filter, length, slice_index, true};
+ghost use Rattle.std.specs.Prelude.{◌≡◌, ◌+◌, ℕ, ℤ, IfErr, IfOk, List, Option, filter, length, slice_index, true};
+ghost use Rattle.lk_val.specs.declared.value.Value.{Value};
+ghost use Rattle.lk_types.specs.declared.answer.Answer.{Answer as AnyAnswer};
 ghost use Rattle.lk_types.specs.declared.rows.Joined.{Joined};
-ghost use Rattle.lk_semantics.specs.Answers.{answer_of, answer_over, dims_of, measure_at, ops_of, query_components};
+ghost use Rattle.lk_semantics.specs.Answers.{answer_of, answer_over, answer_unless, dims_of, measure_at, ops_of, query_components};
 ghost use Rattle.lk_semantics.specs.DatedRows.{are_joins_dated, are_sources_dated};
 ghost use Rattle.lk_semantics.specs.Rows.{visible_rows};
 ghost use Rattle.lk_exec.specs.Visits.{IsOver, IsWithin};
+ghost use Rattle.lk_agg.specs.Finishing.{IsFaultOf};
+ghost use Rattle.lk_filter.specs.PlacedModel.{placed_explore};
 ghost use Rattle.lk_gather.specs.Asked.{IsPlan, does_pass};
 ghost use Rattle.lk_gather.specs.Gathers.{HasGathered};
 ghost use Rattle.lk_gather.specs.Measures.{is_fine_explore};
@@ -14,41 +18,48 @@ use crate::gather::gather_rows;
 use lk_agg::{Acc, AccShape, AggFault, given_rows_are_regular};
 use lk_exec::ExecFault;
 use lk_lines::{answer_lines, query_components};
-use lk_types::{Answer, Explore, Op, Pick, Plan, Sources};
+use lk_table::TableSet;
+use lk_types::{Answer, Explore, Op, Pick, Plan};
 use lk_val::{Items, NoMemory};
 use std::alloc::Global;
 
-/// The answer to a query over tables, or `Many` (X1) where a cap is given and more rows are visible. It goes once over the
-/// visible rows and keeps none of them: the groups with what each keeps for its measures, and then their lines. (lookd)
+/// The answer to a query at a moment over tables, or `Many` (X1) where a cap is given and more rows are visible. It goes
+/// once over the visible rows and keeps none of them: the groups with what each keeps for its measures, and then their
+/// lines. `now` counts seconds from 1970-01-01 00:00:00 UTC: the relative dates in the filters of the query's measures
+/// stand for the days that they name then. (lookd)
 pub fn answer(
     alloc: Global,
     explore: &Explore,
-    sources: &Sources,
+    sources: &TableSet,
     plan: &Plan,
     cap: Option<u64>,
+    now: i64,
 ) -> Result<Answer, ExecFault>
     requires parts { length explore.now.parts ≡ length explore.now.joins + 1 }
     requires explore { is_fine_explore explore.now ≡ true }
     requires conditions { are_joins_dated explore.now ≡ true }
     requires tables { are_sources_dated sources.now ≡ true }
     requires plan { IsPlan explore.now sources.now plan.now }
-    ensures answer { IfOk result (λ answer. answer ≡ answer_of explore.now sources.now plan.now.bound) }
-    ensures within { IfOk result (λ answer. IsWithin cap (visible_rows explore.now sources.now plan.now.bound)) }
-    ensures many { IfErr result (λ fault. fault ≡ Many → IsOver cap (visible_rows explore.now sources.now plan.now.bound)) }
+    ensures answer { IfOk result (λ answer. answer
+        ≡ answer_of (placed_explore now explore.now) sources.now plan.now.bound) }
+    ensures within { IfOk result (λ answer. IsWithin cap
+        (visible_rows (placed_explore now explore.now) sources.now plan.now.bound)) }
+    ensures many { IfErr result (λ fault. fault ≡ Many → IsOver cap
+        (visible_rows (placed_explore now explore.now) sources.now plan.now.bound)) }
 {
     let components = query_components(alloc, explore, &plan.bound)?;
     let shape = AccShape {
         dims: dims_count(alloc, plan.bound.picks.as_slice())?,
         ops: ops_of(alloc, explore, components.as_slice())?,
     };
-    let asked = Asked::new(alloc, explore, plan, components.as_slice())?;
+    let asked = Asked::new(alloc, explore, plan, components.as_slice(), now)?;
     match gather_rows(alloc, sources, cap, &asked, Acc::new(alloc, shape)?) {
         Err(fault) => Err(fault),
         Ok(acc) => finish(alloc, explore, plan, components.as_slice(), acc),
     }
 }
 
-// The answer from the groups of the passing rows.
+// The answer from the groups of the passing rows at a moment.
 fn finish(
     alloc: Global,
     explore: &Explore,
@@ -56,19 +67,30 @@ fn finish(
     components: &[u32],
     acc: Acc,
 ) -> Result<Answer, ExecFault>
-    requires { components.now ≡ query_components explore.now plan.now.bound }
-    ensures answer { (count : ℕ) (seen : List Joined) → HasGathered explore.now plan.now acc count seen
-        → IfOk result (λ answer. answer ≡ answer_over explore.now plan.now.bound (filter (does_pass plan.now) seen)) }
+    requires { (now : ℤ) → components.now ≡ query_components (placed_explore now explore.now) plan.now.bound }
+    ensures answer { (now : ℤ) (count : ℕ) (seen : List Joined) → HasGathered (placed_explore now explore.now) plan.now acc count seen
+        → IfOk result (λ answer. answer ≡ answer_over (placed_explore now explore.now) plan.now.bound (filter (does_pass plan.now) seen)) }
     ensures many { IfErr result (λ fault. fault ≡ Many → ⊥) }
 {
     given_rows_are_regular();
     match acc.finish() {
         Ok(groups) => Ok(answer_lines(alloc, explore, &plan.bound, groups)?),
-        Err(AggFault::Conflict { measure, key }) => Ok(Answer::Duplicate(
+        Err(fault) => refused_by(components, fault),
+    }
+}
+
+// The answer that the least conflict gives in place of another.
+fn refused_by(components: &[u32], fault: AggFault) -> Result<Answer, ExecFault>
+    ensures answer { (conflict : Option (ℕ × Value)) (other : AnyAnswer) → IsFaultOf fault conflict
+        → IfOk result (λ answer. answer ≡ answer_unless components.now conflict other) }
+    ensures many { IfErr result (λ fault. fault ≡ Many → ⊥) }
+{
+    match fault {
+        AggFault::Conflict { measure, key } => Ok(Answer::Duplicate(
             number_at(components, measure),
             key,
         )),
-        Err(AggFault::NoMemory) => Err(ExecFault::NoMemory),
+        AggFault::NoMemory => Err(ExecFault::NoMemory),
     }
 }
 

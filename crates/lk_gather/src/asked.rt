@@ -3,6 +3,7 @@ ghost use Rattle.std.specs.List.{list_all};
 ghost use Rattle.lk_types.specs.Dates.{are_literals_dated, is_row_dated};
 ghost use Rattle.lk_semantics.specs.Answers.{dims_of, key_value, measure_at, query_components};
 ghost use Rattle.lk_semantics.specs.Rows.{tuple_of};
+ghost use Rattle.lk_filter.specs.PlacedModel.{placed_explore};
 ghost use Rattle.lk_gather.specs.Asked.{GivesCells, GivesGroups, does_pass};
 ghost use Rattle.lk_gather.specs.Dims.{is_fine_dim};
 ghost use Rattle.lk_gather.specs.Measures.{is_fine_explore, is_fine_taken};
@@ -15,17 +16,18 @@ use lk_types::{Explore, KeyValue, Pick, Plan};
 use lk_val::{Items, NoMemory, Value};
 use std::alloc::Global;
 
-// A query, ready to be computed on its visible rows: its dimensions, and its components.
+// A query, ready to be computed on its visible rows: its dimensions, and its components at the query's moment.
 #[derive(Drop)]
 pub(crate) struct Asked<'a> {
     pub(crate) explore: &'a Explore,
     pub(crate) plan: &'a Plan,
+    pub(crate) moment: i64,
     dims: Items<Dim<'a>>,
     taken: Items<Taken<'a>>,
     ghost fine_dims: { list_all is_fine_dim dims ≡ true },
     ghost gives_groups: { GivesGroups explore.now plan.now dims },
     ghost fine_taken: { list_all is_fine_taken taken ≡ true },
-    ghost gives_cells: { GivesCells explore.now plan.now taken },
+    ghost gives_cells: { GivesCells (placed_explore moment explore.now) plan.now taken },
     ghost dated: { are_literals_dated plan.now.passing ≡ true },
 }
 
@@ -36,19 +38,23 @@ impl<'a> Asked<'a> {
         explore: &'a Explore,
         plan: &'a Plan,
         components: &[u32],
+        moment: i64,
     ) -> Result<Asked<'a>, NoMemory>
         requires explore { is_fine_explore explore.now ≡ true }
         requires dated { are_literals_dated plan.now.passing ≡ true }
-        requires components { components.now ≡ query_components explore.now plan.now.bound }
+        requires components { components.now
+            ≡ query_components (placed_explore moment explore.now) plan.now.bound }
         ensures explore { IfOk result (λ asked. asked.explore.now ≡ explore.now) }
         ensures plan { IfOk result (λ asked. asked.plan.now ≡ plan.now) }
+        ensures moment { IfOk result (λ asked. asked.moment ≡ moment) }
     {
         let numbers = dims_of(alloc, plan.bound.picks.as_slice())?;
         Ok(Asked {
             explore,
             plan,
+            moment,
             dims: dims_at(alloc, explore, numbers.as_slice())?,
-            taken: taken_by(alloc, explore, components)?,
+            taken: taken_by(alloc, explore, components, moment)?,
         })
     }
 
@@ -77,8 +83,10 @@ impl<'a> Asked<'a> {
         row: &LentRow<'_>,
     ) -> Result<Items<KeyValue>, NoMemory>
         requires { is_row_dated row.now ≡ true }
-        ensures { IfOk result (λ cells. cells ≡ map (λ m. key_value self.now.explore.now (measure_at self.now.explore.now m) row.now)
-            (query_components self.now.explore.now self.now.plan.now.bound)) }
+        ensures { IfOk result (λ cells. cells
+            ≡ map (λ m. key_value (placed_explore self.now.moment self.now.explore.now)
+            (measure_at (placed_explore self.now.moment self.now.explore.now) m) row.now)
+            (query_components (placed_explore self.now.moment self.now.explore.now) self.now.plan.now.bound)) }
     {
         cells_of(alloc, self.taken.as_slice(), row)
     }

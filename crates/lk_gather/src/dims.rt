@@ -4,8 +4,10 @@ ghost use Rattle.lk_types.specs.Shapes.{bound_below, plain_value, tier_of};
 ghost use Rattle.lk_types.specs.Dates.{is_row_dated};
 ghost use Rattle.lk_val.specs.declared.value.Value.{Value as AnyValue};
 ghost use Rattle.lk_semantics.specs.Rows.{field_at, no_field};
+ghost use Rattle.lk_filter.specs.PlacedModel.{placed_field_filter};
 ghost use Rattle.lk_gather.specs.Dims.{AreDims, AreTests, IsDim, IsTest, are_fine_tests, dim_of, finished, has_fine_finish, is_bound, is_fine_dim, is_fine_field, is_met_by};
 
+use crate::moment::MomentFilter;
 use lk_eval::{HasCells, eval_over};
 use lk_filter::passes;
 use lk_types::{Explore, Expr, Field, Filter, Kind, Node, Shape};
@@ -28,11 +30,11 @@ pub(crate) struct Dim<'a> {
     pub(crate) finish: Finish<'a>,
 }
 
-// A filter on a field.
+// A filter on a field, at a moment.
 #[derive(Drop)]
 pub(crate) struct FieldTest<'a> {
     pub(crate) dim: Dim<'a>,
-    pub(crate) filter: &'a Filter,
+    pub(crate) filter: MomentFilter<'a>,
 }
 
 impl<'a> Finish<'a> {
@@ -170,18 +172,19 @@ pub(crate) fn dim_values<R: HasCells>(
     Ok(values)
 }
 
-/// The tests of some filters on fields, in order.
+/// The tests of some filters on fields at a moment, in order.
 pub(crate) fn tests_of<'a>(
     alloc: Global,
     explore: &'a Explore,
     filters: &'a [(u32, Filter)],
+    now: i64,
 ) -> Result<Items<FieldTest<'a>>, NoMemory>
     requires { list_all is_fine_field explore.now.fields ≡ true }
-    ensures { IfOk result (AreTests explore.now filters.now) }
+    ensures { IfOk result (AreTests explore.now (map (placed_field_filter now) filters.now)) }
 {
     let mut tests = Items::new(alloc);
     for filter in filters {
-        tests.push(test_of(alloc, explore, filter)?)?;
+        tests.push(test_of(alloc, explore, filter, now)?)?;
     }
     Ok(tests)
 }
@@ -190,13 +193,14 @@ fn test_of<'a>(
     alloc: Global,
     explore: &'a Explore,
     filter: &'a (u32, Filter),
+    now: i64,
 ) -> Result<FieldTest<'a>, NoMemory>
     requires { list_all is_fine_field explore.now.fields ≡ true }
-    ensures { IfOk result (IsTest explore.now filter.now) }
+    ensures { IfOk result (IsTest explore.now (placed_field_filter now filter.now)) }
 {
     Ok(FieldTest {
         dim: Dim::at(alloc, explore, filter.0)?,
-        filter: &filter.1,
+        filter: MomentFilter::at(alloc, &filter.1, now)?,
     })
 }
 
@@ -224,5 +228,5 @@ fn passes_test<R: HasCells>(alloc: Global, test: &FieldTest<'_>, row: &R) -> Res
     ensures { IfOk result (λ passes. passes ≡ is_met_by (R.row_of row.now) test.now) }
 {
     let value = test.dim.value(alloc, row)?;
-    Ok(passes(test.filter, &value))
+    Ok(passes(test.filter.filter(), &value))
 }

@@ -8,6 +8,7 @@ mod dims;
 mod gather;
 mod laws;
 mod measures;
+mod moment;
 
 pub use answering::answer;
 pub use laws::resolved_explores_are_fine;

@@ -7,6 +7,7 @@ ghost use Rattle.lk_semantics.specs.Answers.{has_part, is_placed, key_of, measur
 ghost use Rattle.lk_semantics.specs.DatedRows.{is_condition_dated};
 ghost use Rattle.lk_semantics.specs.Joins.{part_at};
 ghost use Rattle.lk_semantics.specs.Measures.{uses_key};
+ghost use Rattle.lk_filter.specs.PlacedModel.{placed_explore, placed_measure};
 ghost use Rattle.lk_gather.specs.Dims.{is_fine_field};
 ghost use Rattle.lk_gather.specs.Measures.{AreTaken, IsTaken, has_wanted, is_fine_explore, is_fine_measure, is_fine_taken, taken_of};
 
@@ -27,30 +28,36 @@ pub(crate) struct Taken<'a> {
     pub(crate) wanted: Option<u32>,
 }
 
-/// What rows give to the measures of some numbers, in order.
+/// What rows give at a moment to the measures of some numbers, in order.
 #[tactic(auto, using(crate::proofs::MeasureLaws::measures_fine))]
 pub(crate) fn taken_by<'a>(
     alloc: Global,
     explore: &'a Explore,
     numbers: &[u32],
+    now: i64,
 ) -> Result<Items<Taken<'a>>, NoMemory>
     requires { is_fine_explore explore.now ≡ true }
-    ensures { IfOk result (AreTaken explore.now numbers.now) }
+    ensures { IfOk result (AreTaken (placed_explore now explore.now) numbers.now) }
 {
     let mut taken = Items::new(alloc);
     for number in numbers {
-        taken.push(taken_at(alloc, explore, *number)?)?;
+        taken.push(taken_at(alloc, explore, *number, now)?)?;
     }
     Ok(taken)
 }
 
-fn taken_at<'a>(alloc: Global, explore: &'a Explore, number: u32) -> Result<Taken<'a>, NoMemory>
+fn taken_at<'a>(
+    alloc: Global,
+    explore: &'a Explore,
+    number: u32,
+    now: i64,
+) -> Result<Taken<'a>, NoMemory>
     requires explore { is_fine_explore explore.now ≡ true }
     requires measures { list_all is_fine_measure explore.now.measures ≡ true }
-    ensures { IfOk result (IsTaken explore.now (measure_at explore.now number)) }
+    ensures { IfOk result (IsTaken explore.now (placed_measure now (measure_at explore.now number))) }
 {
     match explore.measures.as_slice().get(number as usize) {
-        Some(measure) => taken_of(alloc, explore, measure),
+        Some(measure) => taken_of(alloc, explore, measure, now),
         None => Ok(taken_by_none(alloc, explore)),
     }
 }
@@ -74,16 +81,17 @@ fn taken_of<'a>(
     alloc: Global,
     explore: &'a Explore,
     measure: &'a Measure,
+    now: i64,
 ) -> Result<Taken<'a>, NoMemory>
     requires explore { is_fine_explore explore.now ≡ true }
     requires measure { is_fine_measure measure.now ≡ true }
-    ensures { IfOk result (IsTaken explore.now measure.now) }
+    ensures { IfOk result (IsTaken explore.now (placed_measure now measure.now)) }
 {
     let key = key_of(explore, measure);
     Ok(Taken {
         key,
         value: measure.value.as_ref(),
-        tests: tests_of(alloc, explore, measure.filters.as_slice())?,
+        tests: tests_of(alloc, explore, measure.filters.as_slice(), now)?,
         wanted: wanted(measure.op, key, measure.part),
     })
 }

@@ -1,3 +1,2 @@
 pub mod Seeds
 pub mod Opening
-pub mod Widths

@@ -1,11 +1,12 @@
-ghost use Rattle.std.specs.Prelude.{◌≡◌, ◌+◌, IfOk, drop, map, option_map};
+ghost use Rattle.std.specs.Prelude.{◌≡◌, ◌+◌, drop, option_map};
 ghost use Rattle.lk_val.specs.Memory.{IsUnlessMemory, is_no_memory};
 ghost use Rattle.lk_seed.specs.Opening.{are_too_large, contents_of, opened_of, seed_at, unless_too_large};
 
 use crate::fault::line;
-use crate::open_table::OpenTable;
-use lk_types::{Schema, TableDef, Tables};
-use lk_val::{Bytes, Items, ModelFault, NoMemory, Text, Value};
+use crate::open_table::open_table;
+use lk_table::{StoredTables, TableVersion, size};
+use lk_types::{Schema, TableDef};
+use lk_val::{Bytes, Items, ModelFault, Text};
 use std::alloc::Global;
 
 /// The most cells that the tables may have together.
@@ -14,14 +15,14 @@ const CELL_LIMIT: u64 = 4_000_000;
 /// The most bytes that the texts of the tables may have together.
 const TEXT_LIMIT: u64 = 134_217_728;
 
-/// The rows of the tables as the project opens, given the body of each table's data file, by table; a table without one has
+/// The tables as the project opens, given the body of each table's data file, by table; a table without one has
 /// no rows. The first fault, in the order of the tables, is L3, L5 or L4 of a data file; only then are they too large
 /// together (L6). (lookd)
 pub fn open_tables(
     alloc: Global,
     schema: &Schema,
     seeds: &[Option<Bytes>],
-) -> Result<Tables, ModelFault>
+) -> Result<StoredTables, ModelFault>
     ensures { IsUnlessMemory is_no_memory result (opened_of schema.now seeds.now) }
 {
     let tables = load_tables(alloc, schema.tables.as_slice(), seeds)?;
@@ -33,7 +34,7 @@ pub(crate) fn open_once(
     alloc: Global,
     schema: &Schema,
     seeds: Items<Option<Bytes>>,
-) -> Result<Tables, ModelFault>
+) -> Result<StoredTables, ModelFault>
     ensures { IsUnlessMemory is_no_memory result (opened_of schema.now seeds) }
 {
     let tables = load_once(alloc, schema.tables.as_slice(), seeds)?;
@@ -44,12 +45,12 @@ fn load_tables(
     alloc: Global,
     defs: &[TableDef],
     seeds: &[Option<Bytes>],
-) -> Result<Items<OpenTable>, ModelFault>
+) -> Result<Items<TableVersion>, ModelFault>
     ensures { IsUnlessMemory is_no_memory result (contents_of defs.now seeds.now) }
 {
     let mut tables = Items::new(alloc);
     for (place, def) in defs.iter().enumerate() {
-        tables.push(OpenTable::new(alloc, def, seed_at(seeds, place))?)?;
+        tables.push(open_table(alloc, def, seed_at(seeds, place))?)?;
     }
     Ok(tables)
 }
@@ -58,14 +59,14 @@ fn load_once(
     alloc: Global,
     defs: &[TableDef],
     seeds: Items<Option<Bytes>>,
-) -> Result<Items<OpenTable>, ModelFault>
+) -> Result<Items<TableVersion>, ModelFault>
     ensures { IsUnlessMemory is_no_memory result (contents_of defs.now seeds) }
 {
     let mut left = seeds.into_vec();
     let mut tables = Items::new(alloc);
     for (place, def) in defs.iter().enumerate() {
         let seed = take_seed(&mut left, place);
-        match OpenTable::new(alloc, def, bytes_of(&seed)) {
+        match open_table(alloc, def, bytes_of(&seed)) {
             Ok(table) => tables.push(table)?,
             Err(fault) => return Err(fault),
         }
@@ -105,36 +106,24 @@ fn bytes_of(seed: &Option<Bytes>) -> Option<&[u8]>
     }
 }
 
-// The rows by table, unless they are too large. A table is let go as soon as its rows are copied.
-fn unless_too_large(alloc: Global, opened: Items<OpenTable>) -> Result<Tables, ModelFault>
+// The tables, unless they are too large.
+fn unless_too_large(alloc: Global, opened: Items<TableVersion>) -> Result<StoredTables, ModelFault>
     ensures { IsUnlessMemory is_no_memory result (unless_too_large opened) }
 {
     if are_too_large(opened.as_slice()) {
         let none = Text::new(alloc);
         return Err(ModelFault::Fault(line(alloc, "L6", none, 0, Text::new(alloc))?));
     }
-    Ok(Tables {
-        tables: rows_of(alloc, opened)?,
-    })
+    Ok(StoredTables::new(opened))
 }
 
-fn rows_of(alloc: Global, opened: Items<OpenTable>) -> Result<Items<Items<Items<Value>>>, NoMemory>
-    ensures { IfOk result (λ tables. tables ≡ map (λ table. table.rows) opened) }
-{
-    let mut tables = Items::new(alloc);
-    for table in opened.into_vec() {
-        tables.push(table.rows(alloc)?)?;
-    }
-    Ok(tables)
-}
-
-fn are_too_large(opened: &[OpenTable]) -> bool
+fn are_too_large(opened: &[TableVersion]) -> bool
     ensures { result ≡ are_too_large opened.now }
 {
     let mut cells: u64 = 0;
     let mut text: u64 = 0;
     for table in opened {
-        let size = table.size();
+        let size = size(table);
         cells = cells.saturating_add(size.cells);
         text = text.saturating_add(size.text);
     }

@@ -9,18 +9,19 @@ use crate::opening::open_once;
 use crate::seeds::read_seeds;
 use lk_include::ProjectFault;
 use lk_io::Files;
-use lk_types::{Schema, Tables};
+use lk_table::StoredTables;
+use lk_types::Schema;
 use lk_val::ModelFault;
 use std::alloc::Global;
 
-/// The rows of a schema's tables as a project opens, by the folder's data files; a table without a data file has no rows. The
+/// A schema's tables as a project opens, by the folder's data files; a table without a data file has no rows. The
 /// first fault is a data file that is too big (P1), then L3, L5 or L4 of a data file, each in the order of the tables, and
 /// then L6 of all tables together. It changes none of the files. (lookd)
 pub fn read_tables<F: Files>(
     alloc: Global,
     files: &mut F,
     schema: &Schema,
-) -> Result<Tables, ProjectFault>
+) -> Result<StoredTables, ProjectFault>
     ensures loaded { IfSome (F.told files.old) (λ told.
         IsUnlessMemory is_outside result (tables_of schema.now told)) }
     ensures valid { IfOk result (λ t. are_valid_tables schema.now.tables t.tables ≡ true) }

@@ -19,7 +19,8 @@ use lk_include::ProjectFault;
 use lk_io::{Clock, Files, Source};
 use lk_resolve::{Loaded, load};
 use lk_seed::read_tables;
-use lk_types::{Model, Sources, Tables};
+use lk_table::{StoredTables, TableSet};
+use lk_types::Model;
 use lk_val::{Bytes, Items, NoMemory, Text};
 use lk_validate::is_resolved;
 use std::alloc::Global;
@@ -133,7 +134,7 @@ fn over_files<F: Files, I: Source>(
 fn over_tables<I: Source>(
     alloc: Global,
     loaded: &Loaded,
-    tables: Tables,
+    tables: StoredTables,
     user: &Text,
     explore: &Text,
     input: &mut I,
@@ -159,20 +160,17 @@ fn over_tables<I: Source>(
 }
 
 // The tables as sources that have no derived ones.
-fn sources_over(alloc: Global, tables: Tables) -> Sources
+fn sources_over(alloc: Global, tables: StoredTables) -> TableSet
     ensures { result ≡ record { stored = tables.tables; derived = [] } }
 {
-    Sources {
-        stored: tables.tables,
-        derived: Items::new(alloc),
-    }
+    TableSet::new(tables, Items::new(alloc))
 }
 
 // What the body asks of the tables.
 fn answer(
     alloc: Global,
     loaded: &Loaded,
-    sources: &Sources,
+    sources: &TableSet,
     user: &Text,
     explore: &Text,
     body: &[u8],

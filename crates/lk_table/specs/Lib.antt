@@ -9,3 +9,4 @@ pub mod KeySets
 pub mod Versions
 pub mod BatchTexts
 pub mod Samples
+pub mod RowRefs

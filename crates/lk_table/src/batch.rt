@@ -37,6 +37,13 @@ impl Model for Batch {
 }
 
 impl Batch {
+    /// The number of rows.
+    pub fn len(&self) -> u32
+        ensures { result ≡ length self.now.rows }
+    {
+        self.block.len()
+    }
+
     /// The rows of the batch.
     pub(crate) fn block(&self) -> &Arc<Block>
         ensures { result.now.value ≡ self.now }
@@ -113,17 +120,17 @@ fn add_record(
     alloc: Global,
     named: &[&ColumnDef],
     sources: &[Option<usize>],
-    record: &ByteRecord,
+    csv_record: &ByteRecord,
     block: Block,
 ) -> Result<Block, BatchFault>
     requires { GivesRows (map (λ column. column.now) named.now) block.kinds sources.now }
     ensures { IsUnlessMemory is_no_memory result (record_added (map (λ column. column.now) named.now) sources.now
-        block (fields_of record.now)) }
+        block (fields_of csv_record.now)) }
 {
     let Some(row) = block.len().checked_add(1) else {
         return Err(BatchFault::NoMemory);
     };
-    let fields = fields_in(alloc, record)?;
+    let fields = fields_in(alloc, csv_record)?;
     let values = read_values(alloc, row, named, &fields)?;
     let cells = by_columns(alloc, sources, &values)?;
     Ok(block.with_row(&cells)?)

@@ -16,6 +16,7 @@ mod load;
 mod parse;
 mod part;
 mod records;
+mod set;
 mod text;
 mod version;
 
@@ -26,5 +27,6 @@ pub use fault::BatchFault;
 pub use laws::batch_texts_read_back;
 pub use lk_val::ValueRef as CellRef;
 pub use load::{apply, compact};
+pub use set::{RowsRef, StoredTables, TableSet};
 pub use text::batch_text;
 pub use version::{TableRows, TableVersion, rows, size};

@@ -19,19 +19,19 @@ pub(crate) fn reader_over(alloc: Global, text: &[u8]) -> Reader<&[u8]>
         .from_reader(alloc, text)
 }
 
-/// Takes the next record of the reader into `record`, or says that none is left.
+/// Takes the next record of the reader into `csv_record`, or says that none is left.
 pub(crate) fn take_record(
     reader: &mut Reader<&[u8]>,
-    record: &mut ByteRecord,
+    csv_record: &mut ByteRecord,
 ) -> Result<bool, NoMemory>
     requires { IsReading reader.old }
     ensures reading { IfOk result (λ found. found ≡ true → IsReading reader.new) }
     ensures value { IfOk result (λ found.
-        records_left reader.old ≡ before found (fields_of record.new) (records_left reader.new)) }
+        records_left reader.old ≡ before found (fields_of csv_record.new) (records_left reader.new)) }
     ensures shorter { IfOk result (λ found. found ≡ true
         → bytes_left reader.new < bytes_left reader.old) }
 {
-    match reader.read_byte_record(record) {
+    match reader.read_byte_record(csv_record) {
         Ok(found) => Ok(found),
         Err(error) => match error.kind() {
             // A slice is read without fault, though no clause of its `Read` says so.
@@ -42,11 +42,11 @@ pub(crate) fn take_record(
 }
 
 /// The fields of a record, where they lie.
-pub(crate) fn fields_in(alloc: Global, record: &ByteRecord) -> Result<Vec<&[u8]>, NoMemory>
-    ensures { IfOk result (λ fields. map (λ field. field.now) fields.items ≡ fields_of record.now) }
+pub(crate) fn fields_in(alloc: Global, csv_record: &ByteRecord) -> Result<Vec<&[u8]>, NoMemory>
+    ensures { IfOk result (λ fields. map (λ field. field.now) fields.items ≡ fields_of csv_record.now) }
 {
-    let mut fields = Vec::with_capacity(alloc, record.len())?;
-    for field in record.iter() {
+    let mut fields = Vec::with_capacity(alloc, csv_record.len())?;
+    for field in csv_record.iter() {
         fields.push(field)?;
     }
     Ok(fields)

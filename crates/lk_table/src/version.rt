@@ -1,4 +1,4 @@
-ghost use Rattle.std.specs.Prelude.{◌≡◌, ◌<◌, ◌++◌, ◌∷◌, [], IfOk, length};
+ghost use Rattle.std.specs.Prelude.{◌≡◌, ◌<◌, ◌++◌, ◌∷◌, [], IfOk, length, map};
 ghost use Rattle.lk_val.specs.ValueRefs.{value_of_ref};
 ghost use Rattle.lk_table.specs.Contents.{cell_at, content_of, row_at, size_of};
 ghost use Rattle.lk_table.specs.Versions.{emptied, followed, rows_of};
@@ -68,7 +68,36 @@ impl TableVersion {
         requires { row < length self.now.rows }
         ensures { value_of_ref result ≡ cell_at (row_at self.now.rows row) column }
     {
-        cell_of(&self.parts, row, column)
+        let (part, behind) = part_at(&self.parts, row);
+        part.cell(behind, column)
+    }
+
+    // A row's cells by column, where they stand.
+    pub(crate) fn row(&self, alloc: Global, row: u32) -> Result<Vec<ValueRef<'_>>, NoMemory>
+        requires { row < length self.now.rows }
+        ensures { IfOk result (λ cells. map value_of_ref cells.items ≡ row_at self.now.rows row) }
+    {
+        let (part, behind) = part_at(&self.parts, row);
+        part.block().row(alloc, behind)
+    }
+
+    /// How many blocks hold the rows: one for each batch since the table was made, replaced or compacted. No clause speaks
+    /// of it.
+    pub fn blocks(&self) -> usize {
+        self.parts.len()
+    }
+
+    /// The version once more: its rows are shared and not copied.
+    pub fn share(&self, alloc: Global) -> Result<TableVersion, NoMemory>
+        ensures { IfOk result (λ version. version ≡ self.now) }
+    {
+        Ok(TableVersion {
+            kinds: Vec::from_slice(alloc, &self.kinds)?,
+            key: self.key,
+            parts: shared(alloc, &self.parts)?,
+            count: self.count,
+            text: self.text,
+        })
     }
 
     // The version without its rows.
@@ -112,11 +141,19 @@ impl TableVersion {
 fn shared_with(alloc: Global, parts: &[Part], last: Part) -> Result<Vec<Part>, NoMemory>
     ensures { IfOk result (λ all. all.items ≡ parts.now ++ last ∷ []) }
 {
+    let mut all = shared(alloc, parts)?;
+    all.push(last)?;
+    Ok(all)
+}
+
+// The parts once more.
+fn shared(alloc: Global, parts: &[Part]) -> Result<Vec<Part>, NoMemory>
+    ensures { IfOk result (λ all. all.items ≡ parts.now) }
+{
     let mut all = Vec::new(alloc);
     for part in parts {
         all.push(part.share()?)?;
     }
-    all.push(last)?;
     Ok(all)
 }
 
@@ -160,14 +197,16 @@ impl TableRows<'_> {
     }
 }
 
-fn cell_of(parts: &[Part], row: u32, column: u32) -> ValueRef<'_>
+// The part in which a row stands, and its number there.
+fn part_at(parts: &[Part], row: u32) -> (&Part, u32)
     requires { row < length (rows_of parts.now) }
-    ensures { value_of_ref result ≡ cell_at (row_at (rows_of parts.now) row) column }
+    ensures within { result.1 < length result.0.now.rows }
+    ensures row { row_at result.0.now.rows result.1 ≡ row_at (rows_of parts.now) row }
 {
     let mut behind = row;
     for part in parts {
         if behind < part.len() {
-            return part.cell(behind, column);
+            return (part, behind);
         }
         behind -= part.len();
     }

@@ -1,14 +1,19 @@
-use Rattle.std.proofs.Common.{◌≡◌, ◌+◌, length, subst, sym, true}
+use Rattle.std.proofs.Common.{◌≡◌, ◌∙◌, ◌+◌, ap, length, of_z, subst, sym, to_z, true, w64}
+use Rattle.std.proofs.lemmas.Int.{to_z-of_z}
+use Rattle.std.specs.Prelude.{Err}
 use Rattle.lk_semantics.specs.DatedRows.{are_joins_dated, are_sources_dated}
 use Rattle.lk_semantics.specs.Derived.{explore_at, sources_of}
 use Rattle.lk_types.specs.declared.explore.Explore.{Explore}
 use Rattle.lk_val.specs.Memory.{IsUnlessMemory}
+use Rattle.lk_filter.specs.PlacedModel.{placed_explore, placed_model}
 use Rattle.lk_gather.specs.Asked.{IsPlan}
 use Rattle.lk_gather.specs.Measures.{is_fine_explore}
 use Rattle.lk_plan.proofs.ResolvedLaws.{resolved_at}
 use Rattle.lk_plan.proofs.SourceLaws.{dated}
 use Rattle.lk_ask.specs.Asks.{is_no_memory, told_over}
-use Rattle.lk_ask.proofs.AskLaws.{is_plan, told_is}
+use Rattle.lk_ask.proofs.AskLaws.{is_plan, many_is, told_is}
+use Rattle.lk_ask.proofs.MomentLaws.{explore_is}
+use Rattle.lk_ask.specs.declared.fault.AskFault.TheVariants as fault
 use Rattle.lk_ask.proofs.asking.answer_bound.Goals as goal
 
 pub answer-requires-clause-parts : goal.answer-requires-clause-parts
@@ -57,6 +62,21 @@ returns c =
     let b = c.args.bound in
     let x = c.explore_of-x.result.now in
     let s = c.args.sources.now in
-    let told = told_is x s b c.in_ok-plan.plan.bound c.in-Ok.answer c.in_ok-plan.ensures.bound c.in-Ok.ensures.answer c.in-Ok.ensures.within in
-    subst (λ y. IsUnlessMemory is_no_memory c.told_by.result (told_over y s b)) c.explore_of-x.ensures
-    (subst (IsUnlessMemory is_no_memory c.told_by.result) told c.told_by.ensures)
+    let m = c.args.m.now in
+    let now = to_z w64 (of_z w64 c.args.now) in
+    let told = told_is now x s b c.in_ok-plan.plan.bound c.in-Ok.answer c.in_ok-plan.ensures.bound c.in-Ok.ensures.answer c.in-Ok.ensures.within in
+    subst (λ n. IsUnlessMemory is_no_memory c.told_by.result (told_over (explore_at (placed_model n m) b.explore) s b)) (to_z-of_z w64 c.args.now c.ranges.now)
+    (subst (λ y. IsUnlessMemory is_no_memory c.told_by.result (told_over y s b))
+    (ap (placed_explore now) c.explore_of-x.ensures ∙ sym (explore_is now m b.explore))
+    (subst (IsUnlessMemory is_no_memory c.told_by.result) told c.told_by.ensures))
+
+pub returns-in-Err-Many : goal.returns-in-Err-Many
+returns-in-Err-Many c =
+    let b = c.args.bound in
+    let x = c.explore_of-x.result.now in
+    let s = c.args.sources.now in
+    let m = c.args.m.now in
+    let now = to_z w64 (of_z w64 c.args.now) in
+    let many = many_is (placed_explore now x) s b c.in_ok-plan.plan.bound c.in_ok-plan.ensures.bound (c.in-Err-Many.ensures.many c.in-Err-Many.field-0-is) in
+    subst (λ n. Err fault.Q10 ≡ told_over (explore_at (placed_model n m) b.explore) s b) (to_z-of_z w64 c.args.now c.ranges.now)
+    (subst (λ y. Err fault.Q10 ≡ told_over y s b) (ap (placed_explore now) c.explore_of-x.ensures ∙ sym (explore_is now m b.explore)) many)

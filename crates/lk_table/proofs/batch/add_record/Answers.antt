@@ -30,4 +30,4 @@ returns c =
     ∙ ap (λ (refs : List ValueRef). row_from c.args.sources.now (map value_of_ref refs)) c.deref-2.ensures.value in
     let more : c.in-Some.row ≡ length c.args.block.rows + 1 = omega (arith, c.len.ensures) in
     ap Ok (c.in_ok-with_row.ensures ∙ ap (with_row c.args.block) row)
-    ∙ record_gives named c.args.sources.now c.args.block (fields_of c.args.record.now) c.in-Some.row more values (rw told at c.in_ok-values.ensures.ok)
+    ∙ record_gives named c.args.sources.now c.args.block (fields_of c.args.csv_record.now) c.in-Some.row more values (rw told at c.in_ok-values.ensures.ok)

@@ -9,7 +9,7 @@ told field = field.now
 
 pub loop-field-preserved : goal.loop-field-preserved
 loop-field-preserved c =
-    let all = fields_of c.args.record.now in
+    let all = fields_of c.args.csv_record.now in
     let at = c.loop-field.field-iterator.at in
     let kept = c.loop-field.invariant in
     let step = c.in-Some.ensures.steps in
@@ -28,7 +28,7 @@ loop-field-preserved c =
 
 pub returns : goal.returns
 returns c =
-    let all = fields_of c.args.record.now in
+    let all = fields_of c.args.csv_record.now in
     let kept = c.loop-field.invariant in
     let step = c.in-None.ensures.steps in
     let none : field_at all c.loop-field.field-iterator.at ≡ None = rw kept.row at (sym step.1) in

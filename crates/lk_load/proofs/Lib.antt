@@ -1,0 +1,4 @@
+pub mod CellLaws
+pub mod RowLaws
+pub mod KeyLaws
+pub mod ValidLaws
