@@ -1,0 +1,48 @@
+-- What an office is, and what its calls keep. (lookd)
+use Rattle.std.specs.Prelude.{◌≡◌, ◌<◌, ◌≤◌, ℕ, Bool, true, false, List, length, Option, IfSome, Result, Ok}
+use Rattle.std.specs.Arc.{arc_value}
+use Rattle.std.specs.List.{All}
+use Rattle.lk_io.specs.Causes.{Rose}
+use Rattle.lk_types.specs.declared.model.Model.{Model}
+use Rattle.lk_types.specs.declared.schema.TableDef.{TableDef}
+use Rattle.lk_schema.specs.declared.users.Users.{Users}
+use Rattle.lk_keep.specs.declared.kept.Kept.{Kept}
+use Rattle.lk_edition.specs.Loads.{load_planned}
+use Rattle.lk_edition.specs.Openings.{Seed, standing_opened}
+use Rattle.lk_edition.specs.Plans.{Planned}
+use Rattle.lk_edition.specs.States.{Standing}
+use Rattle.lk_edition.specs.declared.call.LoadCall.{LoadCall}
+use Rattle.lk_edition.specs.declared.fault.OpenFault.{OpenFault}
+use Rattle.lk_edition.specs.declared.fault.OpenFault.TheVariants as fault
+use Rattle.lk_edition.specs.declared.office.Office.{Office}
+use Rattle.lk_edition.specs.declared.plan.LoadPlan.TheVariants as plan
+
+-- each seed is of a table of the schema
+abbrev pub AreSeeds : List TableDef → List Seed → Type 0
+AreSeeds defs seeds = All (λ seed. seed.0 < length defs) seeds
+
+-- the edition comes of what a store handed over, and where the store tells what it holds, of that
+pub record IsOpening (model : Model) (users : Users) (held : Option Kept) (seeds : List Seed) (result : Result Standing OpenFault) : Type 0 where
+  pub kept : Kept
+  pub told : IfSome held (λ holds. kept ≡ holds)
+  pub is : standing_opened model users kept seeds ≡ result
+
+-- the plan is that of some load on the edition
+pub record IsPlanned (e : Standing) (p : Planned) : Type 0 where
+  pub call : LoadCall
+  pub is : load_planned e call ≡ Ok (plan.New p)
+
+-- the edition of an office
+abbrev pub standing_in : {K : Type 0} → Office K → Standing
+standing_in office = arc_value office.edition
+
+-- the fault comes from outside: it is the store's, or want of memory
+abbrev pub is_outside : OpenFault → Bool
+is_outside fault.Store = true
+is_outside fault.NoMemory = true
+is_outside other = false
+
+-- the count never falls, and the office does not open for its store only where it rose
+pub record HasOpenCause (before now : ℕ) (why : OpenFault) : Type 0 where
+  pub later : before ≤ now
+  pub rose : why ≡ fault.Store → Rose before now

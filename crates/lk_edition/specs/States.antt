@@ -1,0 +1,31 @@
+-- A state of the server, and the edition that stands for it. (lookd)
+use Rattle.std.specs.Prelude.{ℕ, List, [], ◌∷◌, map}
+use Rattle.lk_types.specs.declared.model.Model.{Model}
+use Rattle.lk_types.specs.declared.rows.Sources.{Sources}
+use Rattle.lk_types.specs.declared.schema.TableDef.{TableDef}
+use Rattle.lk_schema.specs.declared.users.Users.{Users}
+use Rattle.lk_table.specs.Contents.{Content}
+use Rattle.lk_load.specs.Loading.{IsTable}
+use Rattle.lk_keep.specs.declared.kept.KeptId.{KeptId}
+
+-- the number of a state, what the tables of the schema hold by number, and the loads that it keeps, with what their replies say
+pub record State : Type 0 where
+  pub number : ℕ
+  pub tables : List Content
+  pub ids : List KeptId
+
+-- a state of a server of this model and these users
+pub record Standing : Type 0 where
+  pub model : Model
+  pub users : Users
+  pub state : State
+
+-- the tables as a query sees them
+abbrev pub sources_at : State → Sources
+sources_at s = record { stored = map (λ content. content.rows) s.tables; derived = [] }
+
+-- what each table holds is of that table
+abbrev pub AreTables : List TableDef → List Content → Type 0
+AreTables [] [] = Unit {0}
+AreTables (def ∷ defs) (content ∷ contents) = IsTable def content × AreTables defs contents
+AreTables defs contents = ⊥

@@ -1,0 +1,187 @@
+ghost use Rattle.std.specs.Prelude.{◌≡◌, ◌+◌, ◌++◌, ◌∷◌, [], IfOk, false, map, option_map};
+ghost use Rattle.std.specs.Arc.{arc_value};
+ghost use Rattle.lk_edition.specs.Editions.{standing_of};
+ghost use Rattle.lk_edition.specs.Limits.{is_over};
+ghost use Rattle.lk_edition.specs.Loads.{kept_load};
+ghost use Rattle.lk_edition.specs.Standings.{IsServed};
+ghost use Rattle.lk_edition.specs.States.{AreTables, sources_at};
+
+use crate::tables::share_tables;
+use lk_keep::KeptId;
+use lk_schema::Users;
+use lk_table::{StoredTables, TableSet, TableVersion};
+use lk_types::Model as Project;
+use lk_val::{Items, NoMemory, Text};
+use std::alloc::Global;
+use std::marker::Model;
+use std::sync::Arc;
+
+// What all editions of a server have.
+#[derive(Drop)]
+pub(crate) struct Base {
+    pub(crate) model: Project,
+    pub(crate) users: Users,
+}
+
+/// The server's tables at a snapshot, with its model and its users. Readers share it. (lookd)
+#[derive(Drop)]
+pub struct Edition {
+    base: Arc<Base>,
+    number: u64,
+    // What each table of the schema holds, by number.
+    tables: Items<TableVersion>,
+    // The same tables as a query sees them.
+    set: TableSet,
+    // The loads that are kept, in order.
+    loads: Items<Arc<KeptId>>,
+}
+
+impl Model for Edition {
+    ghost use Rattle.std.specs.Prelude.{map};
+    ghost use Rattle.std.specs.Arc.{arc_value};
+    ghost use Rattle.lk_edition.specs.Editions.{IsEdition, standing_of};
+    ghost use Rattle.lk_edition.specs.States.{Standing};
+
+    ghost Value = { Standing };
+
+    ghost use Rattle.std.specs.Coded.{codes};
+    ghost use Rattle.lk_types.specs.FormulaCode.{coded_formula};
+    ghost use Rattle.lk_types.specs.CalculationCode.{coded_calculation};
+
+    ghost coded = { Prim.hlevel (codes, coded_formula, coded_calculation) };
+
+    ghost view = { λ edition. standing_of (arc_value edition.base) edition.number edition.tables
+        (map arc_value edition.loads) };
+
+    ghost invariant = { λ edition. IsEdition (arc_value edition.base) edition.number edition.tables
+        (map arc_value edition.loads) edition.set };
+}
+
+impl Edition {
+    // The edition of these parts.
+    pub(crate) fn new(
+        alloc: Global,
+        base: Arc<Base>,
+        number: u64,
+        tables: Items<TableVersion>,
+        loads: Items<Arc<KeptId>>,
+    ) -> Result<Edition, NoMemory>
+        requires served { IsServed (arc_value base).model }
+        requires tables { AreTables (arc_value base).model.schema.tables tables }
+        requires small { is_over (record { number = number; tables = tables; ids = map arc_value loads }) ≡ false }
+        ensures { IfOk result (λ edition. edition ≡ standing_of (arc_value base) number tables (map arc_value loads)) }
+    {
+        let shared = share_tables(alloc, tables.as_slice())?;
+        Ok(Edition {
+            base,
+            number,
+            tables,
+            set: TableSet::new(StoredTables::new(shared), Items::new(alloc)),
+            loads,
+        })
+    }
+
+    /// The snapshot's number.
+    pub fn number(&self) -> u64
+        ensures { result ≡ self.now.state.number }
+    {
+        self.number
+    }
+
+    /// The model.
+    pub fn model(&self) -> &Project
+        ensures { result.now ≡ self.now.model }
+    {
+        &self.base.model
+    }
+
+    /// The users.
+    pub fn users(&self) -> &Users
+        ensures { result.now ≡ self.now.users }
+    {
+        &self.base.users
+    }
+
+    /// The tables as a query sees them.
+    pub fn set(&self) -> &TableSet
+        ensures { result.now ≡ sources_at self.now.state }
+    {
+        &self.set
+    }
+
+    // What each table holds, by number.
+    pub(crate) fn tables(&self) -> &[TableVersion]
+        ensures tables { result.now ≡ self.now.state.tables }
+        ensures are { AreTables self.now.model.schema.tables self.now.state.tables }
+    {
+        self.tables.as_slice()
+    }
+
+    // The number of the next state.
+    pub(crate) fn next_number(&self) -> u64
+        ensures { result ≡ self.now.state.number + 1 }
+    {
+        self.number + 1
+    }
+
+    // The kept load of an id.
+    pub(crate) fn kept_load(&self, id: &Text) -> Option<&KeptId>
+        ensures { option_map (λ load. load.now) result ≡ kept_load self.now.state.ids id.now }
+    {
+        find_load(self.loads.as_slice(), id)
+    }
+
+    // The loads that are kept, and one behind them.
+    pub(crate) fn loads_with(
+        &self,
+        alloc: Global,
+        load: KeptId,
+    ) -> Result<Items<Arc<KeptId>>, NoMemory>
+        ensures { IfOk result (λ loads. map arc_value loads ≡ self.now.state.ids ++ load ∷ []) }
+    {
+        let mut loads = share_loads(alloc, self.loads.as_slice())?;
+        loads.push(Arc::new(alloc, load)?)?;
+        Ok(loads)
+    }
+
+    // The edition of the same model and users over other parts.
+    pub(crate) fn next(
+        &self,
+        alloc: Global,
+        number: u64,
+        tables: Items<TableVersion>,
+        loads: Items<Arc<KeptId>>,
+    ) -> Result<Edition, NoMemory>
+        requires tables { AreTables self.now.model.schema.tables tables }
+        requires small { is_over (record { number = number; tables = tables; ids = map arc_value loads }) ≡ false }
+        ensures { IfOk result (λ edition. edition ≡ record {
+          model = self.now.model;
+          users = self.now.users;
+          state = record { number = number; tables = tables; ids = map arc_value loads };
+        }) }
+    {
+        Edition::new(alloc, Arc::try_clone(&self.base)?, number, tables, loads)
+    }
+}
+
+fn find_load<'a>(loads: &'a [Arc<KeptId>], id: &Text) -> Option<&'a KeptId>
+    ensures { option_map (λ load. load.now) result ≡ kept_load (map arc_value loads.now) id.now }
+{
+    for load in loads {
+        if load.id == *id {
+            return Some(&**load);
+        }
+    }
+    None
+}
+
+// The loads once more, shared.
+fn share_loads(alloc: Global, loads: &[Arc<KeptId>]) -> Result<Items<Arc<KeptId>>, NoMemory>
+    ensures { IfOk result (λ shared. map arc_value shared ≡ map arc_value loads.now) }
+{
+    let mut shared = Items::new(alloc);
+    for load in loads {
+        shared.push(Arc::try_clone(load)?)?;
+    }
+    Ok(shared)
+}

@@ -1,0 +1,171 @@
+ghost use Rattle.std.specs.Prelude.{◌≡◌, ◌<◌, IfOk, length, slice_set};
+ghost use Rattle.lk_val.specs.Memory.{IsUnlessMemory};
+ghost use Rattle.lk_load.specs.Loading.{IsTable, table_loaded};
+ghost use Rattle.lk_edition.specs.Loads.{content_at, def_at, into_table, is_loader, is_no_memory, kept_load, load_planned, over_batch, planned, table_named, unless_kept, unless_over};
+ghost use Rattle.lk_edition.specs.States.{AreTables};
+
+use crate::call::LoadCall;
+use crate::edition::Edition;
+use crate::fault::{LoadFault, load_fault};
+use crate::limits::is_over;
+use crate::plan::{LoadPlan, Pending};
+use crate::replies::load_reply;
+use crate::tables::{load_into, set_table, share_tables, table_named};
+use lk_keep::{Command, KeptId};
+use lk_load::LoadedTable;
+use lk_schema::{Users, attribute_of};
+use lk_table::{TableVersion, compact};
+use lk_val::{Items, NoMemory, Text};
+use std::alloc::Global;
+use std::sync::Arc;
+
+// The most blocks that a table's rows stand in.
+const BLOCK_LIMIT: usize = 64;
+
+/// What a load comes to on an edition.
+pub(crate) fn plan_load(
+    alloc: Global,
+    edition: &Edition,
+    call: &LoadCall,
+) -> Result<LoadPlan, LoadFault>
+    ensures { IsUnlessMemory is_no_memory result (load_planned edition.now call.now) }
+{
+    if !is_loader(alloc, edition.users(), &call.user)? {
+        return Err(LoadFault::L1(call.user.copy(alloc)?));
+    }
+    match table_named(edition.model().schema.tables.as_slice(), &call.table) {
+        Some(number) => unless_kept(alloc, edition, call, number),
+        None => Err(LoadFault::L2(call.table.copy(alloc)?)),
+    }
+}
+
+/// Whether a user may load and check.
+pub(crate) fn is_loader(alloc: Global, users: &Users, user: &Text) -> Result<bool, NoMemory>
+    ensures { IfOk result (λ is. is ≡ is_loader users.now user.now) }
+{
+    let loader = Text::from_str(alloc, "loader")?;
+    Ok(attribute_of(users, user, &loader).is_some())
+}
+
+// Into the table of a number: a load that is kept gets its reply again.
+fn unless_kept(
+    alloc: Global,
+    edition: &Edition,
+    call: &LoadCall,
+    number: usize,
+) -> Result<LoadPlan, LoadFault>
+    requires { number < length edition.now.model.schema.tables }
+    ensures { IsUnlessMemory is_no_memory result
+        (unless_kept edition.now call.now number (kept_load edition.now.state.ids call.now.id)) }
+{
+    match edition.kept_load(&call.id) {
+        Some(load) => Ok(LoadPlan::Kept(load_reply(alloc, load.rows, load.number)?)),
+        None => load_batch(alloc, edition, call, number),
+    }
+}
+
+fn load_batch(
+    alloc: Global,
+    edition: &Edition,
+    call: &LoadCall,
+    number: usize,
+) -> Result<LoadPlan, LoadFault>
+    requires { number < length edition.now.model.schema.tables }
+    ensures { IsUnlessMemory is_no_memory result (over_batch edition.now call.now number
+        (table_loaded (def_at edition.now.model.schema.tables number) (content_at edition.now.state.tables number).rows
+        call.now.body call.now.replace)) }
+{
+    let defs = edition.model().schema.tables.as_slice();
+    let loaded = load_into(
+        alloc,
+        defs,
+        edition.tables(),
+        number,
+        call.body.as_slice(),
+        call.replace,
+    );
+    match loaded {
+        Ok(loaded) => plan_loaded(alloc, edition, call, number, loaded),
+        Err(fault) => Err(load_fault(fault)),
+    }
+}
+
+// The plan of a load whose batch is read, unless it leads over a limit.
+fn plan_loaded(
+    alloc: Global,
+    edition: &Edition,
+    call: &LoadCall,
+    number: usize,
+    loaded: LoadedTable,
+) -> Result<LoadPlan, LoadFault>
+    requires within { number < length edition.now.model.schema.tables }
+    requires table { IsTable (def_at edition.now.model.schema.tables number) loaded.version }
+    ensures { IsUnlessMemory is_no_memory result (unless_over (planned edition.now call.now number loaded)) }
+{
+    let LoadedTable {
+        version,
+        rows,
+        text,
+    } = loaded;
+    let rows = u64::from(rows);
+    let next = edition.next_number();
+    let tables = tables_with(alloc, edition, number, compacted(alloc, version)?)?;
+    let loads = edition.loads_with(alloc, kept_id(alloc, call, next, rows)?)?;
+    if is_over(next, tables.as_slice(), loads.len()) {
+        return Err(LoadFault::L6);
+    }
+    let next_edition = edition.next(alloc, next, tables, loads)?;
+    Ok(LoadPlan::New(Pending {
+        edition: Arc::new(alloc, next_edition)?,
+        command: Command {
+            number: next,
+            id: call.id.copy(alloc)?,
+            table: call.table.copy(alloc)?,
+            replace: call.replace,
+            rows,
+            body: text,
+        },
+        reply: load_reply(alloc, rows, next)?,
+    }))
+}
+
+// The tables of an edition with another version of one of them.
+fn tables_with(
+    alloc: Global,
+    edition: &Edition,
+    number: usize,
+    version: TableVersion,
+) -> Result<Items<TableVersion>, NoMemory>
+    requires within { number < length edition.now.model.schema.tables }
+    requires table { IsTable (def_at edition.now.model.schema.tables number) version }
+    ensures set { IfOk result (λ tables. tables ≡ slice_set edition.now.state.tables number version) }
+    ensures are { IfOk result (AreTables edition.now.model.schema.tables) }
+{
+    let tables = share_tables(alloc, edition.tables())?;
+    Ok(set_table(
+        edition.model().schema.tables.as_slice(),
+        tables,
+        number,
+        version,
+    ))
+}
+
+fn kept_id(alloc: Global, call: &LoadCall, number: u64, rows: u64) -> Result<KeptId, NoMemory>
+    ensures { IfOk result (λ load. load ≡ record { id = call.now.id; number = number; rows = rows }) }
+{
+    Ok(KeptId {
+        id: call.id.copy(alloc)?,
+        number,
+        rows,
+    })
+}
+
+// The same rows, in one block where they stood in more than 64.
+fn compacted(alloc: Global, version: TableVersion) -> Result<TableVersion, NoMemory>
+    ensures { IfOk result (λ compacted. compacted ≡ version) }
+{
+    if version.blocks() <= BLOCK_LIMIT {
+        return Ok(version);
+    }
+    compact(alloc, &version)
+}

@@ -1,0 +1,211 @@
+ghost use Rattle.std.specs.Prelude.{◌≡◌, ◌<◌, IfErr, IfOk, Some, false, length, map};
+ghost use Rattle.std.specs.Arc.{arc_value};
+ghost use Rattle.lk_val.specs.Memory.{IsUnlessMemory};
+ghost use Rattle.lk_edition.specs.Limits.{is_over};
+ghost use Rattle.lk_edition.specs.Offices.{AreSeeds};
+ghost use Rattle.lk_edition.specs.Standings.{IsServed};
+ghost use Rattle.lk_edition.specs.Openings.{all_appended, all_seeded, appended, appended_to, empty_tables, is_no_memory, seeded, standing_opened, standing_over, state_over};
+ghost use Rattle.lk_edition.specs.States.{AreTables};
+ghost use Rattle.lk_edition.specs.declared.fault.OpenFault.TheVariants as fault;
+
+use crate::edition::{Base, Edition};
+use crate::fault::OpenFault;
+use crate::limits::is_over;
+use crate::tables::{load_into, set_table, table_named};
+use lk_keep::{Chunk, Kept, KeptId};
+use lk_load::loads_keep_tables_valid;
+use lk_schema::Users;
+use lk_table::{BatchFault, TableVersion};
+use lk_types::{Model, TableDef};
+use lk_val::{Bytes, Items, NoMemory, Text};
+use std::alloc::Global;
+use std::sync::Arc;
+
+/// The edition that a server opens with, by what its store kept and by seeds.
+pub(crate) fn open_edition(
+    alloc: Global,
+    model: Model,
+    users: Users,
+    kept: Kept,
+    seeds: &[(u32, Bytes)],
+) -> Result<Edition, OpenFault>
+    requires model { IsServed model }
+    requires seeds { AreSeeds model.schema.tables seeds.now }
+    ensures value { IsUnlessMemory is_no_memory result (standing_opened model users kept seeds.now) }
+    ensures never { IfErr result (λ why. why ≡ fault.Store → ⊥) }
+{
+    let Kept {
+        number,
+        chunks,
+        ids,
+    } = kept;
+    let defs = model.schema.tables.as_slice();
+    let tables = all_appended(alloc, defs, empty_tables(alloc, defs)?, chunks.as_slice())?;
+    let tables = all_seeded(alloc, defs, tables, seeds)?;
+    if is_over(number, tables.as_slice(), ids.len()) {
+        return Err(OpenFault::Full);
+    }
+    let loads = each_shared(alloc, ids)?;
+    Ok(edition_over(alloc, model, users, number, tables, loads)?)
+}
+
+fn edition_over(
+    alloc: Global,
+    model: Model,
+    users: Users,
+    number: u64,
+    tables: Items<TableVersion>,
+    loads: Items<Arc<KeptId>>,
+) -> Result<Edition, NoMemory>
+    requires served { IsServed model }
+    requires tables { AreTables model.schema.tables tables }
+    requires small { is_over (record { number = number; tables = tables; ids = map arc_value loads }) ≡ false }
+    ensures { IfOk result (λ edition. edition ≡ record {
+      model = model;
+      users = users;
+      state = record { number = number; tables = tables; ids = map arc_value loads };
+    }) }
+{
+    let base = Arc::new(alloc, Base { model, users })?;
+    Edition::new(alloc, base, number, tables, loads)
+}
+
+fn each_shared(alloc: Global, ids: Items<KeptId>) -> Result<Items<Arc<KeptId>>, NoMemory>
+    ensures { IfOk result (λ loads. map arc_value loads ≡ ids) }
+{
+    let mut loads = Items::new(alloc);
+    for id in ids.into_vec() {
+        loads.push(Arc::new(alloc, id)?)?;
+    }
+    Ok(loads)
+}
+
+// The tables without rows.
+fn empty_tables(alloc: Global, defs: &[TableDef]) -> Result<Items<TableVersion>, NoMemory>
+    ensures value { IfOk result (λ tables. tables ≡ empty_tables defs.now) }
+    ensures are { IfOk result (AreTables defs.now) }
+{
+    loads_keep_tables_valid();
+    let mut tables = Items::new(alloc);
+    for def in defs {
+        tables.push(TableVersion::empty(alloc, def)?)?;
+    }
+    Ok(tables)
+}
+
+// The tables with all kept batches appended.
+fn all_appended(
+    alloc: Global,
+    defs: &[TableDef],
+    tables: Items<TableVersion>,
+    chunks: &[Chunk],
+) -> Result<Items<TableVersion>, OpenFault>
+    requires { AreTables defs.now tables }
+    ensures value { IsUnlessMemory is_no_memory result (all_appended defs.now tables chunks.now) }
+    ensures tables { IfOk result (AreTables defs.now) }
+    ensures never { IfErr result (λ why. why ≡ fault.Store → ⊥) }
+{
+    let mut tables = tables;
+    for chunk in chunks {
+        tables = append_chunk(alloc, defs, tables, chunk)?;
+    }
+    Ok(tables)
+}
+
+fn append_chunk(
+    alloc: Global,
+    defs: &[TableDef],
+    tables: Items<TableVersion>,
+    chunk: &Chunk,
+) -> Result<Items<TableVersion>, OpenFault>
+    requires { AreTables defs.now tables }
+    ensures value { IsUnlessMemory is_no_memory result (appended defs.now tables chunk.now) }
+    ensures tables { IfOk result (AreTables defs.now) }
+    ensures never { IfErr result (λ why. why ≡ fault.Store → ⊥) }
+{
+    match table_named(defs, &chunk.table) {
+        Some(number) => append_at(alloc, defs, tables, number, chunk),
+        None => Err(OpenFault::Unread(
+            chunk.table.copy(alloc)?,
+            BatchFault::L3 {
+                row: 0,
+                column: Text::new(alloc),
+            },
+        )),
+    }
+}
+
+// The tables with a kept batch appended to that of a number.
+fn append_at(
+    alloc: Global,
+    defs: &[TableDef],
+    tables: Items<TableVersion>,
+    number: usize,
+    chunk: &Chunk,
+) -> Result<Items<TableVersion>, OpenFault>
+    requires are { AreTables defs.now tables }
+    requires within { number < length defs.now }
+    ensures value { IsUnlessMemory is_no_memory result (appended_to defs.now tables chunk.now (Some number)) }
+    ensures tables { IfOk result (AreTables defs.now) }
+    ensures never { IfErr result (λ why. why ≡ fault.Store → ⊥) }
+{
+    match load_into(
+        alloc,
+        defs,
+        tables.as_slice(),
+        number,
+        chunk.body.as_slice(),
+        false,
+    ) {
+        Ok(loaded) => Ok(set_table(defs, tables, number, loaded.version)),
+        Err(BatchFault::NoMemory) => Err(OpenFault::NoMemory),
+        Err(fault) => Err(OpenFault::Unread(chunk.table.copy(alloc)?, fault)),
+    }
+}
+
+// The tables with all seeds in place of their rows.
+fn all_seeded(
+    alloc: Global,
+    defs: &[TableDef],
+    tables: Items<TableVersion>,
+    seeds: &[(u32, Bytes)],
+) -> Result<Items<TableVersion>, OpenFault>
+    requires tables { AreTables defs.now tables }
+    requires seeds { AreSeeds defs.now seeds.now }
+    ensures value { IsUnlessMemory is_no_memory result (all_seeded defs.now tables seeds.now) }
+    ensures tables { IfOk result (AreTables defs.now) }
+    ensures never { IfErr result (λ why. why ≡ fault.Store → ⊥) }
+{
+    let mut tables = tables;
+    for seed in seeds {
+        tables = put_seed(alloc, defs, tables, seed.0 as usize, &seed.1)?;
+    }
+    Ok(tables)
+}
+
+fn put_seed(
+    alloc: Global,
+    defs: &[TableDef],
+    tables: Items<TableVersion>,
+    number: usize,
+    body: &Bytes,
+) -> Result<Items<TableVersion>, OpenFault>
+    requires tables { AreTables defs.now tables }
+    requires within { number < length defs.now }
+    ensures value { IsUnlessMemory is_no_memory result (seeded defs.now tables (number, body.now)) }
+    ensures tables { IfOk result (AreTables defs.now) }
+    ensures never { IfErr result (λ why. why ≡ fault.Store → ⊥) }
+{
+    match load_into(
+        alloc,
+        defs,
+        tables.as_slice(),
+        number,
+        body.as_slice(),
+        true,
+    ) {
+        Ok(loaded) => Ok(set_table(defs, tables, number, loaded.version)),
+        Err(BatchFault::NoMemory) => Err(OpenFault::NoMemory),
+        Err(fault) => Err(OpenFault::Seed(defs[number].name.copy(alloc)?, fault)),
+    }
+}

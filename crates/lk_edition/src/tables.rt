@@ -1,0 +1,98 @@
+// The tables of a schema by number, and what they hold.
+
+ghost use Rattle.std.specs.Prelude.{◌≡◌, ◌<◌, IfOk, IfSome, length, slice_set};
+ghost use Rattle.lk_val.specs.Memory.{IsUnlessMemory};
+ghost use Rattle.lk_table.specs.Faults.{is_no_memory};
+ghost use Rattle.lk_load.specs.Loading.{IsTable, table_loaded};
+ghost use Rattle.lk_edition.specs.Loads.{content_at, def_at, table_named};
+ghost use Rattle.lk_edition.specs.States.{AreTables};
+
+use lk_load::{LoadedTable, load_text, loads_keep_tables_valid};
+use lk_table::{BatchFault, TableVersion};
+use lk_types::TableDef;
+use lk_val::{Items, NoMemory, Text};
+use std::alloc::Global;
+
+/// The number of the table of a name.
+pub(crate) fn table_named(defs: &[TableDef], name: &Text) -> Option<usize>
+    ensures named { result ≡ table_named defs.now name.now }
+    ensures within { IfSome result (λ number. number < length defs.now) }
+{
+    defs.iter().position(|def| def.name == *name)
+}
+
+/// The declaration of the table of a number, and what it holds.
+pub(crate) fn table_in<'a>(
+    defs: &'a [TableDef],
+    tables: &'a [TableVersion],
+    number: usize,
+) -> (&'a TableDef, &'a TableVersion)
+    requires are { AreTables defs.now tables.now }
+    requires within { number < length defs.now }
+    ensures def { result.0.now ≡ def_at defs.now number }
+    ensures content { result.1.now ≡ content_at tables.now number }
+    ensures table { IsTable (def_at defs.now number) (content_at tables.now number) }
+{
+    (&defs[number], &tables[number])
+}
+
+/// The table of a number after a text is loaded into it.
+pub(crate) fn load_into(
+    alloc: Global,
+    defs: &[TableDef],
+    tables: &[TableVersion],
+    number: usize,
+    text: &[u8],
+    replace: bool,
+) -> Result<LoadedTable, BatchFault>
+    requires are { AreTables defs.now tables.now }
+    requires within { number < length defs.now }
+    ensures value { IsUnlessMemory is_no_memory result
+        (table_loaded (def_at defs.now number) (content_at tables.now number).rows text.now replace) }
+    ensures table { IfOk result (λ loaded. IsTable (def_at defs.now number) loaded.version) }
+{
+    loads_keep_tables_valid();
+    let (def, version) = table_in(defs, tables, number);
+    load_text(alloc, def, version, text, replace)
+}
+
+/// The tables with another version of one of them.
+pub(crate) fn set_table(
+    defs: &[TableDef],
+    tables: Items<TableVersion>,
+    number: usize,
+    version: TableVersion,
+) -> Items<TableVersion>
+    requires are { AreTables defs.now tables }
+    requires within { number < length defs.now }
+    requires is { IsTable (def_at defs.now number) version }
+    ensures set { result ≡ slice_set tables number version }
+    ensures are { AreTables defs.now result }
+{
+    let all = set_item(tables.into_vec(), number, version);
+    Items::from_vec(all)
+}
+
+// The tables with another one at a place.
+fn set_item(mut tables: Vec<TableVersion>, place: usize, version: TableVersion) -> Vec<TableVersion>
+    ensures { result.items ≡ slice_set tables.items place version }
+{
+    if place < tables.len() {
+        tables[place] = version;
+    }
+    tables
+}
+
+/// The tables once more: their rows are shared and not copied.
+pub(crate) fn share_tables(
+    alloc: Global,
+    tables: &[TableVersion],
+) -> Result<Items<TableVersion>, NoMemory>
+    ensures { IfOk result (λ shared. shared ≡ tables.now) }
+{
+    let mut shared = Items::new(alloc);
+    for table in tables {
+        shared.push(table.share(alloc)?)?;
+    }
+    Ok(shared)
+}
