@@ -1,5 +1,5 @@
 -- Rounds that change nothing, and lists that are alike place by place.
-use Rattle.std.proofs.Common.{◌≡◌, ◌∙◌, ℕ, zero, suc, refl, ap, sym}
+use Rattle.std.proofs.Common.{◌≡◌, ◌∙◌, ℕ, zero, suc, refl, ap}
 use Rattle.lk_types.specs.declared.schema.Schema.{Schema}
 use Rattle.lk_objects.specs.declared.view.Declared.{Declared}
 use Rattle.lk_model.specs.declared.view_kinds.ViewKinds.{ViewKinds}

@@ -1,5 +1,5 @@
 -- The first fault of the objects of a project, one object after another. (lookd)
-use Rattle.std.specs.Prelude.{ℕ, List, [], ◌∷◌, Option}
+use Rattle.std.specs.Prelude.{ℕ, [], ◌∷◌, Option}
 use Rattle.std.specs.Option.{option_or}
 use Rattle.lk_val.specs.declared.fault.FaultLine.{FaultLine}
 use Rattle.lk_types.specs.declared.schema.Schema.{Schema}

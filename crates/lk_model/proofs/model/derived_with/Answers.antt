@@ -1,7 +1,7 @@
 use Rattle.std.proofs.Common.{◌≡◌, ◌∙◌, ap}
 use Rattle.std.proofs.lemmas.Result.{IfOk-weaker}
 use Rattle.lk_resolved.specs.DerivedTables.{derived_over}
-use Rattle.lk_model.specs.Models.{derived_in, explore_number, names_of, source_scope}
+use Rattle.lk_model.specs.Models.{derived_in, explore_number, source_scope}
 use Rattle.lk_model.specs.ViewKinds.{source_named}
 use Rattle.lk_model.proofs.model.derived_with.Goals as goal
 
