@@ -5,9 +5,10 @@ use Rattle.lk_semantics.specs.Resolved.{IsResolved}
 use Rattle.lk_edition.specs.Limits.{is_over}
 use Rattle.lk_edition.specs.States.{AreTables, Standing}
 
--- a model that is served: it is a resolved one, and all its tables are stored
+-- a model that is served: it is a resolved one, all its tables are stored, and it has no datagroups, so that nothing is built
 pub record IsServed (m : Model) : Type 0 where
   pub stored : m.derived ≡ []
+  pub plain : m.datagroups ≡ []
   pub resolved : IsResolved m
 
 -- what always holds of an edition

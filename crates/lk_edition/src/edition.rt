@@ -3,7 +3,7 @@ ghost use Rattle.std.specs.Arc.{arc_value};
 ghost use Rattle.lk_edition.specs.Editions.{standing_of};
 ghost use Rattle.lk_edition.specs.Limits.{is_over};
 ghost use Rattle.lk_edition.specs.Loads.{kept_load};
-ghost use Rattle.lk_edition.specs.Standings.{IsServed};
+ghost use Rattle.lk_edition.specs.Standings.{IsServed, IsStanding};
 ghost use Rattle.lk_edition.specs.States.{AreTables, sources_at};
 
 use crate::tables::share_tables;
@@ -79,6 +79,14 @@ impl Edition {
             set: TableSet::new(StoredTables::new(shared), Items::new(alloc)),
             loads,
         })
+    }
+
+    /// What always holds of an edition: its model is served, and its tables are those of the schema, within the limits. A law: it
+    /// computes nothing.
+    pub fn stands(&self)
+        ensures { IsStanding self.now }
+    {
+        let _ = &self.base;
     }
 
     /// The snapshot's number.

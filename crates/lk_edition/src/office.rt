@@ -1,4 +1,4 @@
-ghost use Rattle.std.specs.Prelude.{◌≡◌, ◌≤◌, [], IfErr, IfOk, IfSome, OnErr, OnOk, Ok, Err};
+ghost use Rattle.std.specs.Prelude.{◌≡◌, ◌≤◌, IfErr, IfOk, IfSome, OnErr, OnOk, Ok, Err};
 ghost use Rattle.std.specs.Arc.{arc_value};
 ghost use Rattle.lk_val.specs.Memory.{IsUnlessMemory, Unless};
 ghost use Rattle.lk_keep.specs.Causes.{HasKeepCause};
@@ -89,10 +89,9 @@ impl<K: Keeper> Office<K> {
         plan_load(alloc, &*self.edition, call)
     }
 
-    /// What a check comes to on the present edition, of whose model it is known that it has no datagroups: the reply that
-    /// nothing was built, or the refusal (G1).
+    /// What a check comes to on the present edition, whose model has no datagroups: the reply that nothing was built, or the
+    /// refusal (G1).
     pub fn plan_check(&self, alloc: Global, user: &Text) -> Result<Reply, CheckFault>
-        requires { (standing_in self.now).model.datagroups ≡ [] }
         ensures { IsUnlessMemory is_no_memory_check result (check_planned (standing_in self.now) user.now) }
     {
         plan_check(alloc, &*self.edition, user)
