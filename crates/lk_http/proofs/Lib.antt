@@ -5,3 +5,4 @@ mod PlaceLemmas
 mod ReadingLemmas
 mod ReplyLemmas
 mod TargetLemmas
+mod WayLemmas

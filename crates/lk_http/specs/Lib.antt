@@ -8,3 +8,4 @@ pub mod Reading
 pub mod Replies
 pub mod Routes
 pub mod Targets
+pub mod Ways

@@ -2,6 +2,7 @@ ghost use Rattle.std.specs.Prelude.{◌≡◌, IfOk, IfSome, IsErrOf, false};
 ghost use Rattle.lk_io.specs.Causes.{Rose};
 ghost use Rattle.lk_http.specs.Answers.{IsAnswer, OnlyReads};
 ghost use Rattle.lk_http.specs.Reading.{request_with};
+ghost use Rattle.lk_http.specs.Ways.{Comes};
 ghost use Rattle.lk_http.specs.declared.faults.HttpFault.{HttpFault};
 
 use crate::asked::{Asked, Parts, read_asked};
@@ -61,6 +62,7 @@ pub fn read_request<L: Link>(alloc: Global, link: &mut L, conn: &mut Conn) -> Re
         (L.Source.faults link.old) (L.Source.faults link.new) }
     ensures cause { IsErrOf result HttpFault.ReadFault →
         Rose (L.Source.faults link.old) (L.Source.faults link.new) }
+    ensures pulls { Comes L.Source.keeps_at_pull link.old link.new }
 {
     match read_head(link, &mut conn.head)? {
         Front::Ended => Ok(Got::End),

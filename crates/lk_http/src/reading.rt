@@ -4,6 +4,7 @@ ghost use Rattle.std.specs.Vec.{vec_capacity};
 ghost use Rattle.lk_io.specs.Causes.{Rose};
 ghost use Rattle.lk_http.specs.Answers.{OnlyReads};
 ghost use Rattle.lk_http.specs.Reading.{IsBodyRead, IsByteRead, IsHeadRead};
+ghost use Rattle.lk_http.specs.Ways.{Comes};
 ghost use Rattle.lk_http.specs.declared.faults.HttpFault.{HttpFault};
 
 use crate::faults::HttpFault;
@@ -33,6 +34,7 @@ pub(crate) fn read_head<L: Link>(link: &mut L, head: &mut Vec<u8>) -> Result<Fro
         (L.Source.faults link.old) (L.Source.faults link.new) }
     ensures cause { IsErrOf result HttpFault.ReadFault →
         Rose (L.Source.faults link.old) (L.Source.faults link.new) }
+    ensures pulls { Comes L.Source.keeps_at_pull link.old link.new }
 {
     head.clear();
     let mut place = Place::Blank;
@@ -73,6 +75,7 @@ fn pull_byte<L: Link>(link: &mut L) -> Result<Option<u8>, HttpFault>
         (L.Source.faults link.old) (L.Source.faults link.new) }
     ensures cause { IsErrOf result HttpFault.ReadFault →
         Rose (L.Source.faults link.old) (L.Source.faults link.new) }
+    ensures pulls { Comes L.Source.keeps_at_pull link.old link.new }
 {
     let mut byte = [0u8];
     match link.pull(&mut byte) {
@@ -98,6 +101,7 @@ pub(crate) fn read_body<L: Link>(
         (L.Source.faults link.old) (L.Source.faults link.new) }
     ensures cause { IsErrOf result HttpFault.ReadFault →
         Rose (L.Source.faults link.old) (L.Source.faults link.new) }
+    ensures pulls { Comes L.Source.keeps_at_pull link.old link.new }
 {
     let mut body = Some(Bytes::new(alloc));
     let mut piece = [0u8; PIECE as usize];
@@ -127,6 +131,7 @@ fn pull_piece<L: Link>(link: &mut L, room: &mut [u8], most: usize) -> Result<usi
         (L.Sink.faults link.old) (L.Sink.faults link.new)
         (L.Source.faults link.old) (L.Source.faults link.new) }
     ensures cause { OnErr result (Rose (L.Source.faults link.old) (L.Source.faults link.new)) }
+    ensures pulls { Comes L.Source.keeps_at_pull link.old link.new }
 {
     match link.pull(&mut room[..most]) {
         Ok(got) => Ok(got),

@@ -4,6 +4,7 @@ ghost use Rattle.std.specs.List.{flat_map};
 ghost use Rattle.lk_io.specs.Causes.{HasCause};
 ghost use Rattle.lk_io.specs.Streams.{AppendsFront};
 ghost use Rattle.lk_http.specs.Replies.{allow_line, close_line, is_status, memory_reply, printed_head, printed_reply, reason_of, type_line};
+ghost use Rattle.lk_http.specs.Ways.{Comes};
 
 use arrayvec::ArrayVec;
 use http::StatusCode;
@@ -21,6 +22,7 @@ pub fn write_reply<L: Link>(link: &mut L, reply: &Reply, close: bool) -> Result<
     ensures cause { HasCause (L.Sink.faults link.old) (L.Sink.faults link.new) result }
     ensures left { L.left link.new ≡ L.left link.old }
     ensures reads { L.Source.faults link.new ≡ L.Source.faults link.old }
+    ensures puts { Comes L.Sink.keeps_at_put link.old link.new }
 {
     write(link, reply.status, reply.csv, reply.body.as_slice(), close)
 }
@@ -34,6 +36,7 @@ pub fn write_memory<L: Link>(link: &mut L, close: bool) -> Result<(), Failed>
     ensures cause { HasCause (L.Sink.faults link.old) (L.Sink.faults link.new) result }
     ensures left { L.left link.new ≡ L.left link.old }
     ensures reads { L.Source.faults link.new ≡ L.Source.faults link.old }
+    ensures puts { Comes L.Sink.keeps_at_put link.old link.new }
 {
     write(link, 507, false, b"{\"error\":\"memory\"}", close)
 }
@@ -56,6 +59,7 @@ fn write<L: Link>(
     ensures cause { HasCause (L.Sink.faults link.old) (L.Sink.faults link.new) result }
     ensures left { L.left link.new ≡ L.left link.old }
     ensures reads { L.Source.faults link.new ≡ L.Source.faults link.old }
+    ensures puts { Comes L.Sink.keeps_at_put link.old link.new }
 {
     let head = print_head(status, csv, body.len(), close);
     link.put(head.as_slice())?;

@@ -3,6 +3,7 @@ use Rattle.std.proofs.lemmas.Result.{err_from_is_err_and}
 use Rattle.lk_http.specs.declared.reading.Front.TheVariants.{Ended, Head}
 use Rattle.lk_http.proofs.HeadLemmas.{open_at_first}
 use Rattle.lk_http.proofs.AnswerLemmas.{head_fault, at_border, refused_length, body_fault, whole_request, front_is, asked_of, answer_is}
+use Rattle.lk_http.proofs.WayLemmas.{way_behind}
 use Rattle.lk_http.proofs.conn.read_request.Goals as goal
 
 pub returns-in_err-read_head-clause-next : goal.returns-in_err-read_head-clause-next
@@ -49,3 +50,9 @@ returns-in_ok-body-in-Head-clause-next g c =
     let left'' = g.L.Source.left c.read_body.new.link in
     whole_request (g.L.Source.left c.args.link.now) left' left'' head asked c.in_ok-asked-in-Head.field-0 c.in_ok-body-in-Head.body c.route.result c.in_ok-read_head.ensures.taken (front_is left' head c.in_ok-read_head.field-0 Head c.in-Head.is c.in_ok-read_head.ensures.read)
     (asked_of c.as_slice.result.now head asked c.as_slice.ensures.value c.read_asked-asked.ensures) c.in_ok-asked-in-Head.was c.in_ok-body-in-Head.ensures.read c.route.ensures
+
+pub returns-in_err-body-in-Head-clause-pulls : goal.returns-in_err-body-in-Head-clause-pulls
+returns-in_err-body-in-Head-clause-pulls g c = way_behind g.L.Source.keeps_at_pull _ _ _ c.in_ok-read_head.ensures.pulls c.in_err-body-in-Head.ensures.pulls
+
+pub returns-in_ok-body-in-Head-clause-pulls : goal.returns-in_ok-body-in-Head-clause-pulls
+returns-in_ok-body-in-Head-clause-pulls g c = way_behind g.L.Source.keeps_at_pull _ _ _ c.in_ok-read_head.ensures.pulls c.in_ok-body-in-Head.ensures.pulls

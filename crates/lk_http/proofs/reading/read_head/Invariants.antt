@@ -5,6 +5,7 @@ use Rattle.std.specs.Vec.{vec_capacity}
 use Rattle.lk_http.specs.Heads.{AreOpenBefore}
 use Rattle.lk_http.specs.Places.{IsAt}
 use Rattle.lk_http.specs.Answers.{OnlyReads}
+use Rattle.lk_http.specs.Ways.{Comes}
 use Rattle.lk_http.proofs.reading.read_head.Given as goal
 
 abbrev pub invariant-loop-place : goal.invariant-loop-place
@@ -15,6 +16,7 @@ invariant-loop-place g l = record {
   early : AreOpenBefore (length l.head.items + 1) l.head.items;
   taken : Consumes (g.L.Source.left l.initial.link) (g.L.Source.left l.link) l.head.items;
   link : OnlyReads (g.L.Sink.held l.initial.link) (g.L.Sink.held l.link) (g.L.Sink.faults l.initial.link) (g.L.Sink.faults l.link) (g.L.Source.faults l.initial.link) (g.L.Source.faults l.link);
+  pulls : Comes g.L.Source.keeps_at_pull l.initial.link l.link;
 }
 
 abbrev pub decreases-loop-place : goal.decreases-loop-place
