@@ -41,7 +41,7 @@ fn names_of(alloc: Global, x: &Explore, picks: &[Pick]) -> Result<Items<Text>, N
 }
 
 // The name of a column; one that the explore doesn't have has none.
-fn name_of(alloc: Global, x: &Explore, pick: &Pick) -> Result<Text, NoMemory>
+pub(crate) fn name_of(alloc: Global, x: &Explore, pick: &Pick) -> Result<Text, NoMemory>
     ensures { IfOk result (λ name. name ≡ name_of x.now pick.now) }
 {
     match *pick {
