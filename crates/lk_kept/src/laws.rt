@@ -1,0 +1,64 @@
+ghost use Rattle.std.specs.Prelude.{◌≡◌, ◌+◌, ◌++◌, ℕ, List, [], length, map, true, None, Some, Ok};
+ghost use Rattle.std.specs.List.{All, AllZip};
+ghost use Rattle.lk_val.specs.Texts.{are_different};
+ghost use Rattle.lk_types.specs.declared.model.Model.{Model};
+ghost use Rattle.lk_types.specs.declared.schema.Schema.{Schema};
+ghost use Rattle.lk_schema.specs.Schemas.{schema_of};
+ghost use Rattle.lk_schema.specs.declared.users.Users.{Users};
+ghost use Rattle.lk_table.specs.BatchTexts.{HasNamedColumns};
+ghost use Rattle.lk_keep.specs.Saving.{after_saves, id_of, load};
+ghost use Rattle.lk_keep.specs.declared.command.Command.{Command};
+ghost use Rattle.lk_keep.specs.declared.kept.Kept.{Kept};
+ghost use Rattle.lk_keep.specs.declared.kept.KeptId.{KeptId};
+ghost use Rattle.lk_edition.specs.Loads.{is_loader, kept_load, load_planned, table_named};
+ghost use Rattle.lk_edition.specs.Openings.{standing_opened};
+ghost use Rattle.lk_edition.specs.Replies.{load_reply};
+ghost use Rattle.lk_edition.specs.States.{Standing};
+ghost use Rattle.lk_edition.specs.declared.call.LoadCall.{LoadCall};
+ghost use Rattle.lk_edition.specs.declared.plan.LoadPlan.TheVariants as plan;
+ghost use Rattle.lk_kept.specs.Accepted.{AreAccepted};
+
+use lk_table::batch_texts_read_back;
+
+/// A load whose id is kept, by a user who may load and into a table of the schema, gets the reply of the kept one, whatever
+/// its batch is. A law: it computes nothing.
+pub fn kept_loads_get_their_reply()
+    ensures { (e : Standing) (call : LoadCall) (number : ℕ) (kept : KeptId) → is_loader e.users call.user ≡ true
+        → table_named e.model.schema.tables call.table ≡ Some number → kept_load e.state.ids call.id ≡ Some kept
+        → load_planned e call ≡ Ok (plan.Kept (load_reply kept.rows kept.number)) }
+{}
+
+/// Loads that are accepted one after the other have different ids, and none that was kept before. Each puts its id behind
+/// the others, is then found by it, and raises the number by 1. The model and the users stay. A law: it computes nothing.
+pub fn ids_append_at_most_once()
+    ensures new { (e : Standing) (calls : List LoadCall) (commands : List Command) (last : Standing)
+        → AreAccepted e calls commands last → All (λ call. kept_load e.state.ids call.id ≡ None) calls }
+    ensures once { (e : Standing) (calls : List LoadCall) (commands : List Command) (last : Standing)
+        → AreAccepted e calls commands last → are_different (map (λ call. call.id) calls) ≡ true }
+    ensures ids { (e : Standing) (calls : List LoadCall) (commands : List Command) (last : Standing)
+        → AreAccepted e calls commands last → last.state.ids ≡ e.state.ids ++ map id_of commands }
+    ensures kept { (e : Standing) (calls : List LoadCall) (commands : List Command) (last : Standing)
+        → AreAccepted e calls commands last
+        → AllZip (λ call command. kept_load last.state.ids call.id ≡ Some (id_of command)) calls commands }
+    ensures number { (e : Standing) (calls : List LoadCall) (commands : List Command) (last : Standing)
+        → AreAccepted e calls commands last → last.state.number ≡ e.state.number + length calls }
+    ensures same { (e : Standing) (calls : List LoadCall) (commands : List Command) (last : Standing)
+        → AreAccepted e calls commands last → (last.model ≡ e.model) × (last.users ≡ e.users) }
+{}
+
+/// A server that opened without seeds and then accepted loads, each of which its store saved, is the one that opens from
+/// what the store then holds. The columns of each table have different names, as in each schema that reads. A law: it
+/// computes nothing.
+pub fn stores_hold_the_last_state()
+    ensures { (model : Model) (users : Users) (kept : Kept) (e : Standing) (calls : List LoadCall) (commands : List Command)
+        (last : Standing) → All HasNamedColumns model.schema.tables → standing_opened model users kept [] ≡ Ok e
+        → AreAccepted e calls commands last
+        → standing_opened model users (after_saves kept (map load commands)) [] ≡ Ok last }
+{
+    batch_texts_read_back();
+}
+
+/// Each table of a schema that reads has columns, of which no two have one name. A law: it computes nothing.
+pub fn schemas_name_their_columns()
+    ensures { (text : List ℕ) (schema : Schema) → schema_of text ≡ Ok schema → All HasNamedColumns schema.tables }
+{}
