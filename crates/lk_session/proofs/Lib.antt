@@ -1,0 +1,6 @@
+pub mod FailureLaws
+pub mod RunLaws
+pub mod ServingLaws
+pub mod StepLaws
+pub mod TableLaws
+pub mod WayLaws

@@ -1,0 +1,151 @@
+-- What each reply to a request has: a status that is written, and 503 only where the store failed.
+use Rattle.std.proofs.Common.{◌≡◌, ◌∙◌, ◌==◌, ◌||◌, ℕ, Bool, true, false, List, refl, sym, ap, subst, inl, inr}
+use Rattle.std.specs.Prelude.{ℤ, ◌⊎◌, ⊤, if◌then◌else◌, Result, Ok, Err, Option, Some, None}
+use Rattle.lk_io.specs.Causes.{Rose}
+use Rattle.lk_types.specs.declared.answer.Reply.{Reply}
+use Rattle.lk_semantics.specs.Derived.{explore_at}
+use Rattle.lk_table.specs.declared.fault.BatchFault.{BatchFault}
+use Rattle.lk_load.specs.declared.load.LoadedTable.{LoadedTable}
+use Rattle.lk_keep.specs.declared.kept.KeptId.{KeptId}
+use Rattle.lk_ask.specs.declared.fault.AskFault.{AskFault}
+use Rattle.lk_ask.specs.declared.fault.AskFault.TheVariants as ask
+use Rattle.lk_ask.specs.declared.told.Told.{Told}
+use Rattle.lk_reply.specs.Statuses.{answer_reply, refusal_reply, status_of}
+use Rattle.lk_edition.specs.Checks.{check_planned, unbuilt_reply}
+use Rattle.lk_edition.specs.Loads.{into_table, is_loader, load_planned, over_batch, planned, table_named, unless_kept}
+use Rattle.lk_edition.specs.Plans.{Planned}
+use Rattle.lk_edition.specs.Refusals.{check_refusal, check_status, load_refusal, load_status, unsaved_reply}
+use Rattle.lk_edition.specs.States.{Standing}
+use Rattle.lk_edition.specs.declared.call.LoadCall.{LoadCall}
+use Rattle.lk_edition.specs.declared.fault.CheckFault.{CheckFault}
+use Rattle.lk_edition.specs.declared.fault.CheckFault.TheVariants as check
+use Rattle.lk_edition.specs.declared.fault.LoadFault.{LoadFault}
+use Rattle.lk_edition.specs.declared.fault.LoadFault.TheVariants as load
+use Rattle.lk_edition.specs.declared.plan.LoadPlan.{LoadPlan}
+use Rattle.lk_edition.specs.declared.plan.LoadPlan.TheVariants.{Kept as kept_plan, New}
+use Rattle.lk_http.specs.Replies.{is_status}
+use Rattle.lk_http.specs.declared.request.Request.{Request}
+use Rattle.lk_http.specs.declared.request.Target.{Target}
+use Rattle.lk_http.specs.declared.request.Target.TheVariants as target
+use Rattle.lk_session.specs.Asking.{replied}
+use Rattle.lk_session.specs.Servers.{ChecksTo, IsQueried, LoadDoes, Serves, Store, TargetDoes, Tells, call_of}
+
+-- ---- statuses
+
+-- a status that is written, and is not that of a store that failed
+abbrev pub IsPlain : ℕ → Type 0
+IsPlain status = (is_status status ≡ true) × ((status == 503) ≡ false)
+
+ask_status : (fault : AskFault) → IsPlain (status_of fault)
+ask_status (ask.Q1 explore) = (refl, refl)
+ask_status (ask.Q2 user) = (refl, refl)
+ask_status ask.Q3 = (refl, refl)
+ask_status (ask.Q4 field) = (refl, refl)
+ask_status (ask.Q5 field attribute) = (refl, refl)
+ask_status (ask.Q6 field place) = (refl, refl)
+ask_status (ask.Q7 measure) = (refl, refl)
+ask_status (ask.Q8 limit) = (refl, refl)
+ask_status (ask.Q9 measure key) = (refl, refl)
+ask_status ask.Q10 = (refl, refl)
+ask_status ask.NoMemory = (refl, refl)
+
+load_status_is : (fault : LoadFault) → IsPlain (load_status fault)
+load_status_is (load.L1 user) = (refl, refl)
+load_status_is (load.L2 table) = (refl, refl)
+load_status_is (load.L3 row column) = (refl, refl)
+load_status_is (load.L4 key) = (refl, refl)
+load_status_is (load.L5 row) = (refl, refl)
+load_status_is load.L6 = (refl, refl)
+load_status_is load.NoMemory = (refl, refl)
+
+check_status_is : (fault : CheckFault) → IsPlain (check_status fault)
+check_status_is (check.G1 user) = (refl, refl)
+check_status_is check.NoMemory = (refl, refl)
+
+-- a reply that is another has its status
+same_status : (reply other : Reply) → reply ≡ other → IsPlain other.status → IsPlain reply.status
+same_status reply other e h = subst (λ (r : Reply). IsPlain r.status) (sym e) h
+
+-- ---- queries
+
+replied_plain : (e : Standing) (csv : Bool) (told : Result Told AskFault) (reply : Reply) → Ok reply ≡ replied e csv told → IsPlain reply.status
+replied_plain e csv (Err fault) reply is = absurd (cc is)
+replied_plain e csv (Ok told) reply is = same_status reply (answer_reply (csv || told.bound.csv) (explore_at e.model told.bound.explore) told e.state.number) (cc is) (refl, refl)
+
+told_plain : (told : Result Reply AskFault) (reply : Reply) → ((answer : Reply) → told ≡ Ok answer → IsPlain answer.status) → Tells told reply → IsPlain reply.status
+told_plain (Ok answer) reply h same = same_status reply answer same (h answer refl)
+told_plain (Err fault) reply h tells = same_status reply (refusal_reply fault) tells.1 (ask_status fault)
+
+queried_plain : (e : Standing) (user explore body : List ℕ) (now : ℤ) (reply : Reply) → IsQueried e user explore body now reply → IsPlain reply.status
+queried_plain e user explore body now reply h =
+    told_plain h.told reply (λ answer is. replied_plain e false h.is.told answer (sym is ∙ h.is.is)) h.tells
+
+-- ---- loads
+
+-- what holds of each plan: its reply is plain
+abbrev HasPlain : Result LoadPlan LoadFault → Type 0
+HasPlain (Err fault) = ⊤
+HasPlain (Ok (kept_plan reply)) = IsPlain reply.status
+HasPlain (Ok (New p)) = IsPlain p.reply.status
+
+plain_unless : (p : Planned) (b : Bool) → IsPlain p.reply.status → HasPlain (if b then Err load.L6 else Ok (New p))
+plain_unless p true h = tt
+plain_unless p false h = h
+
+plain_batch : (e : Standing) (call : LoadCall) (number : ℕ) (loaded : Result LoadedTable BatchFault) → HasPlain (over_batch e call number loaded)
+plain_batch e call number (Err fault) = tt
+plain_batch e call number (Ok loaded) = plain_unless (planned e call number loaded) _ (refl, refl)
+
+plain_kept : (e : Standing) (call : LoadCall) (number : ℕ) (kept : Option KeptId) → HasPlain (unless_kept e call number kept)
+plain_kept e call number (Some kept) = (refl, refl)
+plain_kept e call number None = plain_batch e call number _
+
+plain_table : (e : Standing) (call : LoadCall) (number : Option ℕ) → HasPlain (into_table e call number)
+plain_table e call None = tt
+plain_table e call (Some number) = plain_kept e call number _
+
+plain_loader : (e : Standing) (call : LoadCall) (b : Bool) → HasPlain (if b then into_table e call (table_named e.model.schema.tables call.table) else Err (load.L1 call.user))
+plain_loader e call true = plain_table e call _
+plain_loader e call false = tt
+
+plan_plain : (e : Standing) (call : LoadCall) → HasPlain (load_planned e call)
+plan_plain e call = plain_loader e call (is_loader e.users call.user)
+
+abbrev pub IsUnsaved : Reply → Store → Store → Type 0
+IsUnsaved reply store store' = (reply ≡ unsaved_reply) × Rose store.faults store'.faults
+
+-- the reply to a load is plain, unless the store failed
+load_plain : (e : Standing) (plan : Result LoadPlan LoadFault) (reply : Reply) (e' : Standing) (store store' : Store)
+    → HasPlain plan → LoadDoes e plan reply e' store store' → IsPlain reply.status ⊎ IsUnsaved reply store store'
+load_plain e (Err fault) reply e' store store' plain does = inl (same_status reply (load_refusal fault) does.1 (load_status_is fault))
+load_plain e (Ok (kept_plan kept)) reply e' store store' plain does = inl (same_status reply kept does.0 plain)
+load_plain e (Ok (New p)) reply e' store store' plain (inl does) = inl (same_status reply p.reply does.0 plain)
+load_plain e (Ok (New p)) reply e' store store' plain (inr does) = inr (does.0, does.2)
+
+-- ---- checks
+
+planned_plain : (b : Bool) (e : Standing) (user : List ℕ) (reply : Reply) → Ok reply ≡ (if b then Ok (unbuilt_reply e.state.number) else Err (check.G1 user)) → IsPlain reply.status
+planned_plain true e user reply is = same_status reply (unbuilt_reply e.state.number) (cc is) (refl, refl)
+planned_plain false e user reply is = absurd (cc is)
+
+check_plain : (planned : Result Reply CheckFault) (e : Standing) (user : List ℕ) (reply : Reply) → planned ≡ check_planned e user → ChecksTo planned reply → IsPlain reply.status
+check_plain (Err fault) e user reply is does = same_status reply (check_refusal fault) does.1 (check_status_is fault)
+check_plain (Ok unbuilt) e user reply is does = same_status reply unbuilt does (planned_plain (is_loader e.users user) e user unbuilt is)
+
+-- ---- requests
+
+pub target_plain : (e : Standing) (now : ℤ) (request : Request) (t : Target) (reply : Reply) (e' : Standing) (store store' : Store)
+    → TargetDoes e now request t reply e' store store' → IsPlain reply.status ⊎ IsUnsaved reply store store'
+target_plain e now request (target.Query explore) reply e' store store' does = inl (queried_plain e request.user explore request.body now reply does.0)
+target_plain e now request (target.Load table replace id) reply e' store store' does =
+    load_plain e (load_planned e (call_of request table replace id)) reply e' store store' (plan_plain e (call_of request table replace id)) does
+target_plain e now request target.Check reply e' store store' does = inl (check_plain (check_planned e request.user) e request.user reply refl does.0)
+
+written : (reply : Reply) (store store' : Store) → IsPlain reply.status ⊎ IsUnsaved reply store store' → is_status reply.status ≡ true
+written reply store store' (inl plain) = plain.0
+written reply store store' (inr failed) = ap (λ (r : Reply). is_status r.status) failed.0
+
+-- a reply to a request has a status that is written
+pub served_status : (e : Standing) (now : ℤ) (request : Request) (reply : Reply) (e' : Standing) (store store' : Store)
+    → Serves e now request reply e' store store' → is_status reply.status ≡ true
+served_status e now request reply e' store store' h = written reply store store' (target_plain e now request request.target reply e' store store' h)

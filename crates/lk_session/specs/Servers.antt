@@ -1,0 +1,155 @@
+-- A server between two replies of a connection, and what the next item of the connection's bytes comes to. (lookd)
+use Rattle.std.specs.Prelude.{◌≡◌, ◌⊎◌, ◌≤◌, ℕ, ℤ, Bool, false, ◌||◌, List, [], ◌∷◌, ◌++◌, codes, Option, Some, None, IfSome, Result, Ok, Err, slice_get}
+use Rattle.std.specs.Option.{option_map}
+use Rattle.lk_io.specs.Causes.{Rose}
+use Rattle.lk_io.specs.Moments.{later}
+use Rattle.lk_types.specs.Dates.{IsMomentInYears}
+use Rattle.lk_types.specs.declared.answer.Reply.{Reply}
+use Rattle.lk_keep.specs.Saving.{Save, after_saves, load}
+use Rattle.lk_keep.specs.declared.kept.Kept.{Kept}
+use Rattle.lk_ask.specs.Asks.{is_no_memory}
+use Rattle.lk_ask.specs.declared.fault.AskFault.{AskFault}
+use Rattle.lk_reply.specs.Statuses.{refusal_reply}
+use Rattle.lk_edition.specs.Checks.{check_planned}
+use Rattle.lk_edition.specs.Checks as checks
+use Rattle.lk_edition.specs.Loads.{load_planned}
+use Rattle.lk_edition.specs.Loads as loads
+use Rattle.lk_edition.specs.Refusals.{check_refusal, load_refusal, unsaved_reply}
+use Rattle.lk_edition.specs.States.{Standing}
+use Rattle.lk_edition.specs.declared.call.LoadCall.{LoadCall}
+use Rattle.lk_edition.specs.declared.fault.CheckFault.{CheckFault}
+use Rattle.lk_edition.specs.declared.fault.LoadFault.{LoadFault}
+use Rattle.lk_edition.specs.declared.plan.LoadPlan.{LoadPlan}
+use Rattle.lk_edition.specs.declared.plan.LoadPlan.TheVariants.{Kept as kept_plan, New}
+use Rattle.lk_http.specs.Items.{IsNext, Item, ends}
+use Rattle.lk_http.specs.Replies.{memory_reply}
+use Rattle.lk_http.specs.declared.faults.HttpFault.{HttpFault}
+use Rattle.lk_http.specs.declared.faults.HttpFault.TheVariants as http
+use Rattle.lk_http.specs.declared.request.Got.TheVariants.{End, Req}
+use Rattle.lk_http.specs.declared.request.Request.{Request}
+use Rattle.lk_http.specs.declared.request.Target.{Target}
+use Rattle.lk_http.specs.declared.request.Target.TheVariants as target
+use Rattle.lk_session.specs.Asking.{IsAnswered}
+
+-- what the store holds, as far as it tells, and how many of its calls failed
+pub record Store : Type 0 where
+  pub held : Option Kept
+  pub faults : ℕ
+
+abbrev pub store_of : Option Kept → ℕ → Store
+store_of held faults = record { held = held; faults = faults }
+
+-- the office's edition, its store, and the moments to come, as far as the clock tells
+pub record Server : Type 0 where
+  pub standing : Standing
+  pub store : Store
+  pub moments : Option (List ℤ)
+
+abbrev pub server : Standing → Option Kept → ℕ → Option (List ℤ) → Server
+server standing held faults moments =
+    record { standing = standing; store = store_of held faults; moments = moments }
+
+-- a reply, and whether the connection closes after it
+pub record Sent : Type 0 where
+  pub reply : Reply
+  pub close : Bool
+
+-- ---- what a request does: its reply, the edition after it, and the store
+
+-- what the store holds after these saves, where it tells; how many of its calls failed never falls
+pub record Saves (saves : List Save) (store store' : Store) : Type 0 where
+  pub held : store'.held ≡ option_map (λ kept. after_saves kept saves) store.held
+  pub later : store.faults ≤ store'.faults
+
+-- nothing is changed and nothing saved
+pub record Stays (e e' : Standing) (store store' : Store) : Type 0 where
+  pub standing : e' ≡ e
+  pub saves : Saves [] store store'
+
+-- the answer of a query, or its refusal
+abbrev pub Tells : Result Reply AskFault → Reply → Type 0
+Tells (Ok answer) reply = reply ≡ answer
+Tells (Err fault) reply = (is_no_memory fault ≡ false) × (reply ≡ refusal_reply fault)
+
+pub record IsQueried (e : Standing) (user explore body : List ℕ) (now : ℤ) (reply : Reply) : Type 0 where
+  pub told : Result Reply AskFault
+  pub is : IsAnswered e user explore body now false told
+  pub tells : Tells told reply
+
+-- an accepted load moves to the edition of its plan and is saved, or the store failed (K1) and nothing is changed
+abbrev pub LoadDoes : Standing → Result LoadPlan LoadFault → Reply → Standing → Store → Store → Type 0
+LoadDoes e (Err fault) reply e' store store' =
+    (loads.is_no_memory fault ≡ false) × (reply ≡ load_refusal fault) × Stays e e' store store'
+LoadDoes e (Ok (kept_plan kept)) reply e' store store' = (reply ≡ kept) × Stays e e' store store'
+LoadDoes e (Ok (New p)) reply e' store store' =
+    ((reply ≡ p.reply) × (e' ≡ p.standing) × Saves (load p.command ∷ []) store store')
+    ⊎ ((reply ≡ unsaved_reply) × Stays e e' store store' × Rose store.faults store'.faults)
+
+abbrev pub ChecksTo : Result Reply CheckFault → Reply → Type 0
+ChecksTo (Err fault) reply = (checks.is_no_memory fault ≡ false) × (reply ≡ check_refusal fault)
+ChecksTo (Ok unbuilt) reply = reply ≡ unbuilt
+
+abbrev pub call_of : Request → List ℕ → Bool → List ℕ → LoadCall
+call_of request table replace id =
+    record { user = request.user; table = table; replace = replace; id = id; body = request.body }
+
+abbrev pub TargetDoes : Standing → ℤ → Request → Target → Reply → Standing → Store → Store → Type 0
+TargetDoes e now request (target.Query explore) reply e' store store' =
+    IsQueried e request.user explore request.body now reply × Stays e e' store store'
+TargetDoes e now request (target.Load table replace id) reply e' store store' =
+    LoadDoes e (load_planned e (call_of request table replace id)) reply e' store store'
+TargetDoes e now request target.Check reply e' store store' =
+    ChecksTo (check_planned e request.user) reply × Stays e e' store store'
+
+-- what a request at a moment does
+abbrev pub Serves : Standing → ℤ → Request → Reply → Standing → Store → Store → Type 0
+Serves e now request reply e' store store' = TargetDoes e now request request.target reply e' store store'
+
+-- ---- what an item comes to
+
+-- a refusal that says its code alone
+abbrev pub coded : ℕ → List ℕ → Reply
+coded status code = record { status = status; csv = false; body = codes "{\"error\":\"" ++ (code ++ codes "\"}") }
+
+-- the reply to a request that is refused as it is; a cut and a link that fails have none
+abbrev pub http_reply : HttpFault → Option Reply
+http_reply http.H1 = Some (coded 400 (codes "H1"))
+http_reply http.H2 = Some (coded 411 (codes "H2"))
+http_reply (http.H3 count) = Some (coded 413 (codes "H3"))
+http_reply (http.H4 close) = Some (coded 404 (codes "H4"))
+http_reply (http.H5 close) = Some (coded 405 (codes "H5"))
+http_reply http.H6 = Some (coded 431 (codes "H6"))
+http_reply http.Truncated = None
+http_reply http.ReadFault = None
+http_reply http.NoMemory = None
+
+-- a request takes the next moment, and does what its target says
+pub record RequestDoes (s : Server) (request : Request) (reply : Reply) (s' : Server) : Type 0 where
+  pub now : ℤ
+  pub years : IsMomentInYears now
+  pub first : IfSome s.moments (λ told. slice_get told 0 ≡ Some now)
+  pub moments : s'.moments ≡ option_map later s.moments
+  pub serves : Serves s.standing now request reply s'.standing s.store s'.store
+
+-- memory was refused: a request is answered that, and changes nothing but that it may have taken the next moment
+pub record IsForgotten (s : Server) (reply : Reply) (s' : Server) : Type 0 where
+  pub is : reply ≡ memory_reply
+  pub stays : Stays s.standing s'.standing s.store s'.store
+  pub moments : (s'.moments ≡ s.moments) ⊎ (s'.moments ≡ option_map later s.moments)
+
+-- the reply of a refusal, or that memory was refused
+abbrev pub IsRefusal : Option Reply → Reply → Type 0
+IsRefusal None reply = ⊥
+IsRefusal (Some refusal) reply = (reply ≡ refusal) ⊎ (reply ≡ memory_reply)
+
+abbrev pub ItemDoes : Server → Item → Reply → Server → Type 0
+ItemDoes s (Ok End) reply s' = ⊥
+ItemDoes s (Ok (Req request)) reply s' = RequestDoes s request reply s' ⊎ IsForgotten s reply s'
+ItemDoes s (Err fault) reply s' = IsRefusal (http_reply fault) reply × (s' ≡ s)
+
+-- the next item of the bytes is answered; the connection closes after an item that asks so, and after the last reply
+pub record IsTurn (s : Server) (bytes : List ℕ) (last : Bool) (sent : Sent) (s' : Server) (rest : List ℕ) : Type 0 where
+  pub item : Item
+  pub next : IsNext bytes (item, rest)
+  pub does : ItemDoes s item sent.reply s'
+  pub closes : sent.close ≡ (ends item || last)

@@ -1,0 +1,241 @@
+ghost use Rattle.std.specs.Prelude.{◌≡◌, ◌⊎◌, ◌≤◌, ◌||◌, [], if◌then◌else◌, IfOk, IfSome, IsSome, Err, None, Ok, OnErr, OnOk, Some, true};
+ghost use Rattle.std.specs.Io.KnownBytes.{Appends};
+ghost use Rattle.lk_io.specs.Causes.{HasCause, Rose};
+ghost use Rattle.lk_io.specs.Streams.{AppendsFront};
+ghost use Rattle.lk_edition.specs.Offices.{standing_in};
+ghost use Rattle.lk_http.specs.Items.{ends};
+ghost use Rattle.lk_http.specs.Replies.{is_status, memory_reply, printed_reply};
+ghost use Rattle.lk_http.specs.Ways.{Comes};
+ghost use Rattle.lk_http.specs.declared.request.Got.TheVariants.{Req};
+ghost use Rattle.lk_session.specs.Runs.{IsSession, closed_by, how_ended};
+ghost use Rattle.lk_session.specs.Servers.{http_reply, server};
+ghost use Rattle.lk_session.specs.Steps.{IsDone, IsRefused, IsSent, IsStep, NeverFall, keeper_in, reply_or_memory};
+ghost use Rattle.lk_session.specs.declared.ended.Ended.{Ended};
+
+use crate::ended::Ended;
+use crate::refusing::refusal_of;
+use crate::serving::serve;
+use lk_edition::Office;
+use lk_http::{Conn, Got, HttpFault, Request, read_request, write_memory, write_reply};
+use lk_io::{Clock, Failed, Link};
+use lk_keep::Keeper;
+use lk_types::Reply;
+use lk_val::{Bytes, NoMemory};
+use std::alloc::Global;
+
+// The most replies of a session.
+const REPLY_LIMIT: u32 = 100_000;
+
+/// Answers the requests of a connection in order, one reply each, until its input ends, a request asks to close, a head can't be
+/// read, 100,000 replies are written, or the link fails. Each whole request with a route takes the clock's next moment. (lookd)
+pub fn session<K: Keeper, L: Link, C: Clock>(
+    alloc: Global,
+    office: &mut Office<K>,
+    link: &mut L,
+    clock: &mut C,
+) -> Ended
+    // Over bytes that the link tells, what went out are the replies of a run from the office as it was to the office as it is.
+    ensures run { IfSome (L.left link.old) (λ bytes. IsSession
+        (server (standing_in office.old) (K.held (keeper_in office.old)) (K.faults (keeper_in office.old)) (C.moments clock.old)) bytes
+        (L.held link.old) (L.held link.new)
+        (server (standing_in office.new) (K.held (keeper_in office.new)) (K.faults (keeper_in office.new)) (C.moments clock.new)) (L.left link.new) result) }
+    ensures read { result ≡ Ended.ReadFault → Rose (L.Source.faults link.old) (L.Source.faults link.new) }
+    ensures write { result ≡ Ended.WriteFault → Rose (L.Sink.faults link.old) (L.Sink.faults link.new) }
+    // No count of faults falls, and the link comes to where it is by pulls and puts alone.
+    ensures counts { NeverFall (K.faults (keeper_in office.old)) (K.faults (keeper_in office.new))
+        (L.Source.faults link.old) (L.Source.faults link.new) (L.Sink.faults link.old) (L.Sink.faults link.new) }
+    ensures ways { Comes (λ a b. L.Source.keeps_at_pull a b ⊎ L.Sink.keeps_at_put a b) link.old link.new }
+{
+    let Ok(mut conn) = Conn::new(alloc) else {
+        return Ended::NoMemory;
+    };
+    for before in 0..REPLY_LIMIT {
+        let last = before == REPLY_LIMIT - 1;
+        match answer_next(alloc, office, link, clock, &mut conn, last) {
+            Some(ended) => return ended,
+            None => {}
+        }
+    }
+    // The last reply ends the session.
+    unreachable!()
+}
+
+// Answers the next item, and tells how the session ended, if it did.
+fn answer_next<K: Keeper, L: Link, C: Clock>(
+    alloc: Global,
+    office: &mut Office<K>,
+    link: &mut L,
+    clock: &mut C,
+    conn: &mut Conn,
+    last: bool,
+) -> Option<Ended>
+    ensures step { IfSome (L.left link.old) (λ bytes. IsStep
+        (server (standing_in office.old) (K.held (keeper_in office.old)) (K.faults (keeper_in office.old)) (C.moments clock.old)) bytes last
+        (L.held link.old) (L.held link.new)
+        (server (standing_in office.new) (K.held (keeper_in office.new)) (K.faults (keeper_in office.new)) (C.moments clock.new)) (L.left link.new) result) }
+    ensures ends { last ≡ true → IsSome result }
+    ensures read { result ≡ Some Ended.ReadFault → Rose (L.Source.faults link.old) (L.Source.faults link.new) }
+    ensures reads { L.Source.faults link.old ≤ L.Source.faults link.new }
+    ensures write { result ≡ Some Ended.WriteFault → Rose (L.Sink.faults link.old) (L.Sink.faults link.new) }
+    ensures writes { L.Sink.faults link.old ≤ L.Sink.faults link.new }
+    ensures counts { K.faults (keeper_in office.old) ≤ K.faults (keeper_in office.new) }
+    ensures ways { Comes (λ a b. L.Source.keeps_at_pull a b ⊎ L.Sink.keeps_at_put a b) link.old link.new }
+{
+    match read_request(alloc, link, conn) {
+        Ok(Got::End) => Some(Ended::Clean),
+        Ok(Got::Req(request)) => answer_request(alloc, office, link, clock, request, last),
+        Err(HttpFault::Truncated) => Some(Ended::Truncated),
+        Err(HttpFault::ReadFault) => Some(Ended::ReadFault),
+        Err(HttpFault::NoMemory) => forget(link, conn.asks_close(), last),
+        Err(fault) => refuse(alloc, link, fault, last),
+    }
+}
+
+// Answers a request.
+fn answer_request<K: Keeper, L: Link, C: Clock>(
+    alloc: Global,
+    office: &mut Office<K>,
+    link: &mut L,
+    clock: &mut C,
+    request: Request,
+    last: bool,
+) -> Option<Ended>
+    ensures done { IsDone
+        (server (standing_in office.old) (K.held (keeper_in office.old)) (K.faults (keeper_in office.old)) (C.moments clock.old)) (Ok (Req request)) last
+        (L.held link.old) (L.held link.new)
+        (server (standing_in office.new) (K.held (keeper_in office.new)) (K.faults (keeper_in office.new)) (C.moments clock.new)) result }
+    ensures left { L.left link.new ≡ L.left link.old }
+    ensures ends { last ≡ true → IsSome result }
+    ensures reads { L.Source.faults link.new ≡ L.Source.faults link.old }
+    ensures write { result ≡ Some Ended.WriteFault → Rose (L.Sink.faults link.old) (L.Sink.faults link.new) }
+    ensures writes { L.Sink.faults link.old ≤ L.Sink.faults link.new }
+    ensures counts { K.faults (keeper_in office.old) ≤ K.faults (keeper_in office.new) }
+    ensures puts { Comes L.Sink.keeps_at_put link.old link.new }
+    ensures never { result ≡ Some Ended.ReadFault → ⊥ }
+{
+    let close = request.close;
+    let now = clock.now();
+    let reply = serve(alloc, office, request, now);
+    send(link, reply, close, last, Ended::Clean)
+}
+
+// Answers a request that was read and dropped for want of memory.
+fn forget<L: Link>(link: &mut L, close: bool, last: bool) -> Option<Ended>
+    ensures sent { IsSent (L.held link.old) (L.held link.new) memory_reply (close || last) (how_ended last Ended.Clean) result }
+    ensures left { L.left link.new ≡ L.left link.old }
+    ensures ends { last ≡ true → IsSome result }
+    ensures reads { L.Source.faults link.new ≡ L.Source.faults link.old }
+    ensures write { result ≡ Some Ended.WriteFault → Rose (L.Sink.faults link.old) (L.Sink.faults link.new) }
+    ensures writes { L.Sink.faults link.old ≤ L.Sink.faults link.new }
+    ensures puts { Comes L.Sink.keeps_at_put link.old link.new }
+    ensures never { result ≡ Some Ended.ReadFault → ⊥ }
+{
+    send(link, Err(NoMemory), close, last, Ended::Clean)
+}
+
+// Answers a request that is refused as it is.
+fn refuse<L: Link>(alloc: Global, link: &mut L, fault: HttpFault, last: bool) -> Option<Ended>
+    requires { IsSome (http_reply fault) }
+    ensures sent { IsRefused fault last (L.held link.old) (L.held link.new) result }
+    ensures some { IsSome (http_reply fault) }
+    ensures left { L.left link.new ≡ L.left link.old }
+    ensures ends { last ≡ true → IsSome result }
+    ensures reads { L.Source.faults link.new ≡ L.Source.faults link.old }
+    ensures write { result ≡ Some Ended.WriteFault → Rose (L.Sink.faults link.old) (L.Sink.faults link.new) }
+    ensures writes { L.Sink.faults link.old ≤ L.Sink.faults link.new }
+    ensures puts { Comes L.Sink.keeps_at_put link.old link.new }
+    ensures never { result ≡ Some Ended.ReadFault → ⊥ }
+{
+    let reply = reply_fault(alloc, fault);
+    send(link, reply, closes(fault), last, closed_by(fault))
+}
+
+// The reply to a request that is refused as it is.
+fn reply_fault(alloc: Global, fault: HttpFault) -> Result<Reply, NoMemory>
+    requires { IsSome (http_reply fault) }
+    ensures { IfOk result (λ reply. http_reply fault ≡ Some reply) }
+{
+    let Some((status, body)) = refusal_of(fault) else {
+        unreachable!()
+    };
+    Ok(Reply {
+        status,
+        csv: false,
+        body: Bytes::from_slice(alloc, body)?,
+    })
+}
+
+// Whether the connection closes after the fault.
+fn closes(fault: HttpFault) -> bool
+    ensures { result ≡ ends (Err fault) }
+{
+    match fault {
+        HttpFault::H4(close) | HttpFault::H5(close) => close,
+        _ => true,
+    }
+}
+
+// How a session ends that the fault closes.
+fn closed_by(fault: HttpFault) -> Ended
+    ensures { result ≡ closed_by (Err fault) }
+{
+    match fault {
+        HttpFault::H1 | HttpFault::H2 | HttpFault::H3(_) | HttpFault::H6 => Ended::BadHead,
+        _ => Ended::Clean,
+    }
+}
+
+// Sends a reply, or that memory was refused, and tells how the session ended, if it did.
+fn send<L: Link>(
+    link: &mut L,
+    reply: Result<Reply, NoMemory>,
+    close: bool,
+    last: bool,
+    ended: Ended,
+) -> Option<Ended>
+    requires status { IfOk reply (λ reply. is_status reply.status ≡ true) }
+    requires never { ended ≡ Ended.ReadFault → ⊥ }
+    requires unwritten { ended ≡ Ended.WriteFault → ⊥ }
+    ensures sent { IsSent (L.held link.old) (L.held link.new) (reply_or_memory reply) (close || last) (how_ended last ended) result }
+    ensures left { L.left link.new ≡ L.left link.old }
+    ensures ends { last ≡ true → IsSome result }
+    ensures reads { L.Source.faults link.new ≡ L.Source.faults link.old }
+    ensures write { result ≡ Some Ended.WriteFault → Rose (L.Sink.faults link.old) (L.Sink.faults link.new) }
+    ensures writes { L.Sink.faults link.old ≤ L.Sink.faults link.new }
+    ensures puts { Comes L.Sink.keeps_at_put link.old link.new }
+    ensures never { result ≡ Some Ended.ReadFault → ⊥ }
+{
+    match write(link, &reply, close || last) {
+        Ok(()) => ended_after(close, last, ended),
+        Err(_) => Some(Ended::WriteFault),
+    }
+}
+
+// Writes a reply, or that memory was refused.
+fn write<L: Link>(link: &mut L, reply: &Result<Reply, NoMemory>, close: bool) -> Result<(), Failed>
+    requires status { IfOk reply.now (λ reply. is_status reply.status ≡ true) }
+    ensures ok { OnOk result (Appends (L.held link.old) (L.held link.new) (printed_reply (reply_or_memory reply.now) close)) }
+    ensures err { OnErr result (AppendsFront (L.held link.old) (L.held link.new) (printed_reply (reply_or_memory reply.now) close)) }
+    ensures cause { HasCause (L.Sink.faults link.old) (L.Sink.faults link.new) result }
+    ensures left { L.left link.new ≡ L.left link.old }
+    ensures reads { L.Source.faults link.new ≡ L.Source.faults link.old }
+    ensures puts { Comes L.Sink.keeps_at_put link.old link.new }
+{
+    match reply {
+        Ok(reply) => write_reply(link, reply, close),
+        Err(NoMemory) => write_memory(link, close),
+    }
+}
+
+// How a session ended whose reply went out, if it did.
+fn ended_after(close: bool, last: bool, ended: Ended) -> Option<Ended>
+    ensures { result ≡ (if close || last then Some (how_ended last ended) else None) }
+{
+    if last {
+        Some(Ended::Spent)
+    } else if close {
+        Some(ended)
+    } else {
+        None
+    }
+}

@@ -1,0 +1,55 @@
+ghost use Rattle.std.specs.Prelude.{◌≡◌, ◌||◌, IfOk, length, nat_lt, true};
+ghost use Rattle.lk_val.specs.Memory.{UnlessMemory};
+ghost use Rattle.lk_types.specs.Dates.{IsMomentInYears};
+ghost use Rattle.lk_semantics.specs.Derived.{explore_at};
+ghost use Rattle.lk_ask.specs.Asks.{is_no_memory};
+ghost use Rattle.lk_reply.specs.Statuses.{answer_reply};
+ghost use Rattle.lk_session.specs.Asking.{IsAnswered};
+
+use lk_ask::{AskFault, Told, ask as ask_tables, told_queries_are_in_their_model};
+use lk_edition::Edition;
+use lk_reply::reply_answer;
+use lk_types::Reply;
+use lk_val::{NoMemory, Text};
+use std::alloc::Global;
+
+/// What a caller's body over an explore is answered on an edition, or its first refusal: those of its binding (Q2, Q1, Q3, Q8,
+/// Q4, Q5, Q6, Q7), then more than 1,000,000 visible rows (Q10), then two values of a measure for one key (Q9). The answer
+/// names the edition's number; it is in CSV where `csv` holds or the query asks so. `now` counts seconds from 1970-01-01
+/// 00:00:00 UTC. (lookd)
+#[tactic(auto, using(crate::proofs::TableLaws::has_tables))]
+pub fn ask(
+    alloc: Global,
+    e: &Edition,
+    user: &Text,
+    explore: &Text,
+    body: &[u8],
+    now: i64,
+    csv: bool,
+) -> Result<Reply, AskFault>
+    requires { IsMomentInYears now }
+    ensures { UnlessMemory is_no_memory result (IsAnswered e.now user.now explore.now body.now now csv) }
+{
+    e.stands();
+    told_queries_are_in_their_model();
+    let told = ask_tables(
+        alloc,
+        e.model(),
+        e.users(),
+        e.set(),
+        user,
+        explore,
+        body,
+        now,
+    )?;
+    Ok(answer(alloc, e, &told, csv || told.bound.csv)?)
+}
+
+fn answer(alloc: Global, e: &Edition, told: &Told, csv: bool) -> Result<Reply, NoMemory>
+    requires { nat_lt told.now.bound.explore (length e.now.model.explores) ≡ true }
+    ensures { IfOk result (λ reply. reply
+        ≡ answer_reply csv (explore_at e.now.model told.now.bound.explore) told.now e.now.state.number) }
+{
+    let x = &e.model().explores.as_slice()[told.bound.explore as usize];
+    reply_answer(alloc, x, told, e.number(), csv)
+}
