@@ -1,5 +1,5 @@
 -- A project says one thing and is loaded as one thing.
-use Rattle.std.proofs.Common.{◌≡◌, ◌∙◌, ℕ, List, [], ◌∷◌, refl, sym, ap, subst}
+use Rattle.std.proofs.Common.{◌≡◌, ◌∙◌, List, [], ◌∷◌, refl, sym, ap, subst}
 use Rattle.std.specs.Prelude.{Option, Some, None, Result, Ok, Err, IfOk, unwrap_or}
 use Rattle.lk_val.specs.declared.fault.FaultLine.{FaultLine}
 use Rattle.lk_val.specs.declared.fault.ModelFault.{ModelFault}
@@ -11,7 +11,6 @@ use Rattle.lk_params.specs.Parameters.{items_of}
 use Rattle.lk_include.specs.Gathering.{gathered}
 use Rattle.lk_include.specs.declared.project.Project.{Project}
 use Rattle.lk_include.specs.declared.project.ProjectFault.{ProjectFault}
-use Rattle.lk_include.specs.declared.project.ProjectFault.TheVariants as project
 use Rattle.lk_merge.specs.Merging.{fault_of, merged_of}
 use Rattle.lk_merge.specs.declared.project.Merged.{Merged}
 use Rattle.lk_merge.specs.declared.project.Object.{Object}

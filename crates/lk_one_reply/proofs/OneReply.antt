@@ -1,6 +1,6 @@
 -- There is one reply to words.
-use Rattle.std.proofs.Common.{◌≡◌, ◌∙◌, inl, inr, ℕ, ℤ, List, sym, ap, subst}
-use Rattle.std.specs.Prelude.{◌⊎◌, Option, Some, None, Result, Ok, Err}
+use Rattle.std.proofs.Common.{◌≡◌, ◌∙◌, inl, inr, ℕ, ℤ, List, sym, subst}
+use Rattle.std.specs.Prelude.{Option, Some, None, Result, Ok, Err}
 use Rattle.lk_io.specs.declared.files.File.{File}
 use Rattle.lk_types.specs.declared.model.Model.{Model}
 use Rattle.lk_types.specs.declared.rows.Sources.{Sources}
@@ -18,7 +18,7 @@ use Rattle.lk_ask.specs.declared.told.Told.{Told}
 use Rattle.lk_serve.specs.Checks.{IsChecked, IsToldBy}
 use Rattle.lk_serve.specs.Outcomes.{IsReply, IsReplyTo}
 use Rattle.lk_serve.specs.Queries.{IsAnswered, IsQueried, OverBody, OverLoad, OverModel, OverTables, TellsAnswer, small_input}
-use Rattle.lk_serve.specs.Words.{Asked, asked_by, unknown, check, query}
+use Rattle.lk_serve.specs.Words.{Asked, asked_by, unknown, check, query, script}
 use Rattle.lk_serve.specs.declared.replies.Reply.{Reply}
 use Rattle.lk_one_reply.specs.Told.{IsTold}
 
@@ -67,7 +67,11 @@ module _ (one_load : OneLoad) (one_told : OneTold) where
   over_body : (loaded : Loaded) (tables : Tables) (user explore : List ℕ) (now : ℤ) (body : Option (List ℕ)) (a b : Reply)
       → OverBody loaded tables user explore (Some now) body a → OverBody loaded tables user explore (Some now) body b → a ≡ b
   over_body loaded tables user explore now None a b h k = h ∙ sym k
-  over_body loaded tables user explore now (Some body) a b h k = one_answered loaded (sources_of loaded.model tables) user explore now body a b h k
+  over_body loaded tables user explore now (Some body) a b h k =
+      let sources = sources_of loaded.model tables in
+      one_answered loaded sources user explore now body a b
+      (subst (λ moment. IsAnswered loaded sources user explore moment body a) h.told h.answered)
+      (subst (λ moment. IsAnswered loaded sources user explore moment body b) k.told k.answered)
 
   over_tables : (loaded : Loaded) (user explore input : List ℕ) (now : ℤ) (t : Result Tables ProjectFault) (a b : Reply)
       → OverTables loaded user explore (Some input) (Some now) t a → OverTables loaded user explore (Some input) (Some now) t b → a ≡ b
@@ -113,6 +117,7 @@ module _ (one_load : OneLoad) (one_told : OneTold) where
   one_by unknown files input now a b h k = h ∙ sym k
   one_by check files input now a b h k = one_checked files a b h k
   one_by (query user explore) files input now a b h k = one_queried files user explore input now a b h k
+  one_by script files input now a b h k = absurd h
 
   pub one_reply : (words : List (List ℕ)) (files : List File) (input : List ℕ) (now : ℤ) (a b : Reply)
       → IsReply words (Some files) (Some input) (Some now) a → IsReply words (Some files) (Some input) (Some now) b → a ≡ b

@@ -22,7 +22,7 @@ pub fn objects_say_one_thing()
     texts_say_one_thing();
 }
 
-/// Where the files, the input and the next moment are told, there is one reply to words, and what the files are loaded as, want of memory
+/// Where the files, the input and the next moment are told, there is one reply to words that ask for one, and what the files are loaded as, want of memory
 /// and a failure aside, is one. A law: it computes nothing.
 pub fn words_have_one_reply()
     ensures loads { (files : List File) (r s : Result Loaded ProjectFault) → IsTold r → IsTold s → IsLoadOf files r → IsLoadOf files s

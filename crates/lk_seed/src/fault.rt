@@ -17,12 +17,8 @@ pub(crate) fn data_path(alloc: Global, name: &Text) -> Result<Text, NoMemory>
     Ok(Text::from_string(format!(in alloc; "data/{name}.csv")?))
 }
 
-/// The fault of a table's data file, by the table's name.
-pub(crate) fn seed_fault(
-    alloc: Global,
-    name: &Text,
-    fault: BatchFault,
-) -> Result<ModelFault, NoMemory>
+/// The fault of a table's data file, by the table's name: its place is the row, and its name the column or the printed key.
+pub fn seed_fault(alloc: Global, name: &Text, fault: BatchFault) -> Result<ModelFault, NoMemory>
     ensures { IfOk result (λ told. told ≡ seed_fault (data_path name.now) fault) }
 {
     let path = data_path(alloc, name)?;

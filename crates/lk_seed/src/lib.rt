@@ -8,6 +8,7 @@ mod opening;
 mod project;
 mod seeds;
 
+pub use fault::seed_fault;
 pub use laws::opening_tables_are_valid;
 pub use opening::open_tables;
 pub use project::read_tables;

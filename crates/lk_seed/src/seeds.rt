@@ -1,4 +1,4 @@
-ghost use Rattle.std.specs.Prelude.{◌≡◌, [], codes, Err, IfOk, IfSome, IsErrOf};
+ghost use Rattle.std.specs.Prelude.{◌≡◌, [], codes, length, Err, IfOk, IfSome, IsErrOf};
 ghost use Rattle.lk_val.specs.Memory.{IsUnlessMemory};
 ghost use Rattle.lk_io.specs.Folder.{paths_of};
 ghost use Rattle.lk_include.specs.Causes.{HasProjectCause, IsOutside, is_outside};
@@ -22,6 +22,7 @@ pub fn read_seeds<F: Files>(
 ) -> Result<Items<Option<Bytes>>, ProjectFault>
     ensures loaded { IfSome (F.told files.old) (λ told.
         IsUnlessMemory is_outside result (seeds_of schema.now.tables told)) }
+    ensures count { IfOk result (λ seeds. length seeds ≡ length schema.now.tables) }
     ensures same { F.told files.new ≡ F.told files.old }
     ensures cause { HasProjectCause (F.faults files.old) (F.faults files.new) result }
 {
@@ -52,6 +53,7 @@ fn read_each<F: Files>(
 ) -> Result<Items<Option<Bytes>>, ProjectFault>
     requires { IfSome (F.told files.old) (λ told. paths.now ≡ paths_of told) }
     ensures seeds { IfSome (F.told files.old) (λ told. IsUnlessMemory is_outside result (seeds_of defs.now told)) }
+    ensures count { IfOk result (λ seeds. length seeds ≡ length defs.now) }
     ensures same { F.told files.new ≡ F.told files.old }
     ensures cause { HasProjectCause (F.faults files.old) (F.faults files.new) result }
 {

@@ -1,1 +1,4 @@
+pub mod ConsoleLaws
+pub mod MomentLaws
 pub mod RunLaws
+pub mod ScriptLaws

@@ -1,7 +1,12 @@
 pub mod Checks
+pub mod Consoles
+pub mod Keeping
+pub mod Openings
 pub mod Outcomes
 pub mod Queries
 pub mod Replies
 pub mod Runs
+pub mod Scripts
 pub mod Stops
+pub mod Tellings
 pub mod Words

@@ -2,6 +2,7 @@
 use Rattle.std.specs.Prelude.{◌≡◌, ◌⊎◌, ℕ, ℤ, IfSome, nat_le, false, if◌then◌else◌, List, [], length, Option, Some, None, Result, Ok, Err}
 use Rattle.lk_val.specs.declared.fault.FaultLine.{FaultLine}
 use Rattle.lk_io.specs.declared.files.File.{File}
+use Rattle.lk_types.specs.Dates.{IsMomentInYears}
 use Rattle.lk_types.specs.declared.model.Model.{Model}
 use Rattle.lk_types.specs.declared.rows.Sources.{Sources}
 use Rattle.lk_types.specs.declared.rows.Tables.{Tables}
@@ -35,11 +36,18 @@ pub record IsAnswered (loaded : Loaded) (sources : Sources) (user explore : List
 abbrev pub small_input : List ℕ → Option (List ℕ)
 small_input input = if nat_le (length input) 16777216 then Some input else None
 
--- a longer input is refused as it is; of any other the reply rests on the moment too, as far as it is told
+-- the same at a moment of the years 1 to 9999, which is the told one where the clock tells
+pub record IsAnsweredThen (loaded : Loaded) (sources : Sources) (user explore : List ℕ) (now : Option ℤ) (body : List ℕ) (reply : Reply) : Type 0 where
+  pub moment : ℤ
+  pub years : IsMomentInYears moment
+  pub told : IfSome now (λ told. moment ≡ told)
+  pub answered : IsAnswered loaded sources user explore moment body reply
+
+-- a longer input is refused as it is; any other is answered at the moment
 abbrev pub OverBody : Loaded → Tables → List ℕ → List ℕ → Option ℤ → Option (List ℕ) → Reply → Type 0
 OverBody loaded tables user explore now None reply = reply ≡ long_reply
 OverBody loaded tables user explore now (Some body) reply =
-    IfSome now (λ moment. IsAnswered loaded (sources_of loaded.model tables) user explore moment body reply)
+    IsAnsweredThen loaded (sources_of loaded.model tables) user explore now body reply
 
 -- the tables that the data files hold, or their first fault; over tables the query is answered or refused, by the input as far as it is told
 abbrev pub OverTables : Loaded → List ℕ → List ℕ → Option (List ℕ) → Option ℤ → Result Tables ProjectFault → Reply → Type 0

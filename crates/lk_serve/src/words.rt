@@ -1,6 +1,6 @@
 ghost use Rattle.std.specs.Prelude.{◌≡◌};
 ghost use Rattle.std.specs.List.{list_any};
-ghost use Rattle.lk_serve.specs.Words.{asked_by, has_dash, meaning, plain_words};
+ghost use Rattle.lk_serve.specs.Words.{asked_by, has_dash, is_script, meaning, plain_words};
 
 use lk_val::Text;
 
@@ -13,9 +13,11 @@ pub enum Command<'a> {
     Check,
     /// The answer to a query of this caller on this explore.
     Query(&'a Text, &'a Text),
+    /// The replies to the requests of the input.
+    Script,
 }
 
-/// The command that the words are: `check DIR` or `query DIR USER EXPLORE`, of which no word begins with `-`.
+/// The command that the words are: `check DIR`, `query DIR USER EXPLORE` or `script DIR`, of which no word begins with `-`.
 pub fn read_words<'a>(words: &'a [Text]) -> Command<'a>
     ensures { meaning result ≡ asked_by words.now }
 {
@@ -25,7 +27,8 @@ pub fn read_words<'a>(words: &'a [Text]) -> Command<'a>
     plain_words(words)
 }
 
-fn have_dash(words: &[Text]) -> bool
+/// Whether a word begins with `-`.
+pub fn have_dash(words: &[Text]) -> bool
     ensures { result ≡ list_any has_dash words.now }
 {
     words.iter().any(|word| has_dash(word.as_bytes()))
@@ -36,6 +39,7 @@ fn plain_words<'a>(words: &'a [Text]) -> Command<'a>
 {
     match words {
         [command, _] if command.as_str() == "check" => Command::Check,
+        [command, _] if command.as_str() == "script" => Command::Script,
         [command, _, user, explore] if command.as_str() == "query" => {
             Command::Query(user, explore)
         }
@@ -47,4 +51,14 @@ fn has_dash(word: &[u8]) -> bool
     ensures { result ≡ has_dash word.now }
 {
     !word.is_empty() && word[0] == b'-'
+}
+
+/// Whether the words ask that requests are served.
+pub fn is_script(words: &[Text]) -> bool
+    ensures { result ≡ is_script (asked_by words.now) }
+{
+    match read_words(words) {
+        Command::Script => true,
+        Command::Unknown | Command::Check | Command::Query(..) => false,
+    }
 }

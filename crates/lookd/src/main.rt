@@ -1,11 +1,12 @@
-//! The program `lookd`: the words of the command line, over a folder, the standard input, the standard output and the
+//! The program `lookd`: the words of the command line, over a folder, a store, the standard input, the standard output and the
 //! system's clock.
 #![tactic(auto)]
 
 ghost use Rattle.std.specs.Prelude.{◌≡◌, [], IfOk, slice_index_or};
 
 use lk_io::{FolderFiles, InSource, OutSink, RealClock};
-use lk_serve::run;
+use lk_keep::Held;
+use lk_serve::{empty_keeper, keeper_for, run};
 use lk_val::{Items, NoMemory, Text};
 use std::alloc::Global;
 use std::io::ErrorKind;
@@ -29,18 +30,25 @@ fn start(rt: HostRuntime) -> Result<u8, NoMemory> {
     let words = read_words(alloc, &rt)?;
     let folder = folder_of(alloc, words.as_slice())?;
     let system: HostRuntime = rt.clone()?;
+    let keeper = match keeper_for(&rt, words.as_slice())? {
+        Held::Memory(keeper) => keeper,
+        // No command keeps a file so far: these words end with the usage line.
+        Held::File(_) => empty_keeper(alloc),
+    };
     let mut files = FolderFiles::at(system, folder);
     let mut input = InSource::new(rt.reader());
     let mut out = OutSink::new(io::writer(&rt));
     let mut clock = RealClock::new(rt);
-    Ok(run(
+    let ran = run(
         alloc,
         words.as_slice(),
         &mut files,
+        keeper,
         &mut input,
         &mut out,
         &mut clock,
-    ))
+    );
+    Ok(ran.status)
 }
 
 // The words after the program's name. Words that are no text are taken as none, which no command has.

@@ -1,7 +1,7 @@
 use crate::folder::folder_of;
 use case_lines::{CaseFault, written};
 use lk_io::{Files, FolderFiles, MemClock, MemSink, MemSource};
-use lk_serve::run;
+use lk_serve::{empty_keeper, run};
 use lk_val::{Bytes, Items, NoMemory, Text, as_text};
 use std::alloc::Global;
 
@@ -16,9 +16,9 @@ pub struct Base {
 }
 
 /// The answer of a line. `with` keeps files and `now` a moment (in seconds from 1970-01-01 00:00:00 UTC) that the lines
-/// behind it stand on. `check` and `query | USER | EXPLORE | BODY` run over these files and the line's own, `words` runs with
-/// other words, and `folder | PATH | USER | EXPLORE | BODY` queries a folder of the system: the answer is the status, and
-/// what was written on one line, with `\n` at each line end.
+/// behind it stand on. `check`, `query | USER | EXPLORE | BODY` and `script | REQUESTS` run over these files and the line's own,
+/// `words` runs with other words, and `folder | PATH | USER | EXPLORE | BODY` and `session | PATH | REQUESTS` run over a folder of the
+/// system: the answer is the status, and what was written on one line, with `\n` for a line feed and `\r` for a carriage return.
 pub fn answer_line(rt: &HostRuntime, base: &mut Base, line: &str) -> Result<Text, CaseFault> {
     let alloc = rt.alloc();
     if line.is_empty() || line.starts_with("#") {
@@ -37,6 +37,8 @@ pub fn answer_line(rt: &HostRuntime, base: &mut Base, line: &str) -> Result<Text
         "check" => answer_words(alloc, base, &["check", "d"], "", fields),
         "query" => answer_query(alloc, base, fields),
         "folder" => answer_folder(rt, base, fields),
+        "session" => answer_session(rt, base, fields),
+        "script" => answer_script(alloc, base, fields),
         "words" => answer_words(alloc, base, words_of(alloc, fields)?.as_slice(), "", ""),
         _ => Err(CaseFault::NoSuchCase),
     }
@@ -59,6 +61,11 @@ fn answer_query(alloc: Global, base: &Base, fields: &str) -> Result<Text, CaseFa
     let (explore, rest) = parted(rest);
     let (body, files) = parted(rest);
     answer_words(alloc, base, &["query", "d", user, explore], body, files)
+}
+
+fn answer_script(alloc: Global, base: &Base, fields: &str) -> Result<Text, CaseFault> {
+    let (requests, files) = parted(fields);
+    answer_words(alloc, base, &["script", "d"], requests, files)
 }
 
 fn answer_words(
@@ -88,6 +95,14 @@ fn answer_folder(rt: &HostRuntime, base: &Base, fields: &str) -> Result<Text, Ca
     )
 }
 
+fn answer_session(rt: &HostRuntime, base: &Base, fields: &str) -> Result<Text, CaseFault> {
+    let alloc = rt.alloc();
+    let (path, requests) = parted(fields);
+    let system: HostRuntime = rt.clone()?;
+    let mut files = FolderFiles::at(system, Text::from_str(alloc, path)?);
+    answer_over(alloc, base.now, &mut files, &["script", path], requests)
+}
+
 fn answer_over<F: Files>(
     alloc: Global,
     now: i64,
@@ -99,14 +114,16 @@ fn answer_over<F: Files>(
     let mut input = MemSource::new(written(alloc, body)?, Items::new(alloc));
     let mut out = MemSink::new(alloc, ROOM, Items::new(alloc))?;
     let mut clock = clock_at(alloc, now)?;
-    let status = run(
+    let ran = run(
         alloc,
         words.as_slice(),
         files,
+        empty_keeper(alloc),
         &mut input,
         &mut out,
         &mut clock,
     );
+    let status = ran.status;
     let text = as_text(out.held()).ok_or(CaseFault::NoSuchCase)?;
     let text = on_one_line(alloc, text.trim_end())?;
     let text = text.as_str();
@@ -133,6 +150,7 @@ fn on_one_line(alloc: Global, text: &str) -> Result<Text, CaseFault> {
     for character in text.chars() {
         match character {
             '\n' => line.push_str("\\n")?,
+            '\r' => line.push_str("\\r")?,
             other => line.push(other)?,
         }
     }

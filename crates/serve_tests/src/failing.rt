@@ -1,5 +1,5 @@
 use lk_io::{File, MemClock, MemFiles, MemSink, MemSource};
-use lk_serve::run;
+use lk_serve::{empty_keeper, run};
 use lk_val::{Bytes, Items, NoMemory, Text};
 use std::alloc::Global;
 use std::test::Fail;
@@ -78,16 +78,17 @@ fn run_failing(alloc: Global, body: Bytes, failing: Failing) -> Result<Ended, No
     let mut input = MemSource::new(body, calls(alloc, failing.input)?);
     let mut out = MemSink::new(alloc, failing.room, calls(alloc, failing.output)?)?;
     let mut clock = clock(alloc)?;
-    let status = run(
+    let ran = run(
         alloc,
         words.as_slice(),
         &mut files,
+        empty_keeper(alloc),
         &mut input,
         &mut out,
         &mut clock,
     );
     Ok(Ended {
-        status,
+        status: ran.status,
         written: out,
     })
 }

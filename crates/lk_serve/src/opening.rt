@@ -1,0 +1,307 @@
+ghost use Rattle.std.specs.Prelude.{◌≡◌, ◌<◌, ◌≤◌, List, Err, IfErr, IfOk, IfSome, Ok, OnOk, length, true, false};
+ghost use Rattle.std.specs.List.{All};
+ghost use Rattle.std.specs.Option.{option_map};
+ghost use Rattle.lk_io.specs.Causes.{Rose};
+ghost use Rattle.lk_io.specs.Moments.{later};
+ghost use Rattle.lk_types.specs.Printing.{value_text};
+ghost use Rattle.lk_seed.specs.Seeds.{Seed, seeds_of};
+ghost use Rattle.lk_edition.specs.Offices.{AreSeeds, IsOpening, standing_in};
+ghost use Rattle.lk_edition.specs.Standings.{IsServed};
+ghost use Rattle.lk_edition.specs.declared.fault.OpenFault.{OpenFault};
+ghost use Rattle.lk_session.specs.Steps.{keeper_in};
+ghost use Rattle.lk_serve.specs.Openings.{HasWhyCause, IsFaulty, IsLine, IsProject, IsUnserved, IsWhy, OpensNot, ProjectNot, TellsFault, with_seed};
+ghost use Rattle.lk_serve.specs.Runs.{IsAskedOnce};
+ghost use Rattle.lk_serve.specs.Scripts.{IsOpened, Opens, numbered, open_fault, open_line, unread_fault, unread_line};
+ghost use Rattle.lk_serve.specs.declared.opening.Why.{Why};
+
+use crate::replies::{Reply, fault_found, unanswered};
+use lk_edition::{Office, OpenFault, Unopened};
+use lk_include::ProjectFault;
+use lk_io::{Clock, Files};
+use lk_keep::Keeper;
+use lk_resolve::{Loaded, load};
+use lk_seed::{read_seeds, seed_fault};
+use lk_table::BatchFault;
+use lk_types::{Model, Shape, print_cell};
+use lk_val::{Bytes, Cell, FaultLine, Items, ModelFault, NoMemory, Text, Value};
+use lk_validate::is_resolved;
+use std::alloc::Global;
+
+/// Why a server did not open.
+#[derive(Debug, Drop)]
+pub enum Why {
+    /// The line on it.
+    Told(Reply),
+    /// The store's count of faults rose.
+    Store,
+    /// The files' count of faults rose.
+    Files,
+    /// Want of memory.
+    Memory,
+}
+
+impl From<NoMemory> for Why {
+    ghost use Rattle.std.specs.Prelude.{◌≡◌};
+    ghost use Rattle.lk_serve.specs.declared.opening.Why.{Why};
+
+    ghost from_gives = { λ _ why. why ≡ Why.Memory };
+
+    fn from(_: NoMemory) -> Why {
+        Why::Memory
+    }
+}
+
+/// Why a server did not open, and its store, handed back.
+#[derive(Drop)]
+pub struct Unserved<K> {
+    pub why: Why,
+    pub keeper: K,
+}
+
+// A project that is served: its model and users, and the batches of its data files with the numbers of their tables.
+struct Opening {
+    loaded: Loaded,
+    seeds: Vec<(u32, Bytes)>,
+}
+
+/// The server that a folder's project opens over a store, or why it does not: the first fault of the project, Z1 for a model
+/// that is not served, a data file that is too big (P1), the first kept batch that does not read (O1), the first data file
+/// that does not read (L3, L5, L4), or tables over a limit (L6). The clock is asked once, before the store is read, and not at
+/// all where the project's files open nothing. It changes neither the files nor what the store holds. (lookd)
+pub fn open_office<F: Files, K: Keeper, C: Clock>(
+    alloc: Global,
+    files: &mut F,
+    keeper: K,
+    clock: &mut C,
+) -> Result<Office<K>, Unserved<K>>
+    ensures opened { IfSome (F.told files.old) (λ told. IfOk result (λ office.
+        IsOpened told (K.held keeper) (Ok (standing_in office)))) }
+    ensures unopened { IfSome (F.told files.old) (λ told. IfErr result (λ unserved.
+        IsWhy (λ reply. IsOpened told (K.held keeper) (Err reply)) unserved.why)) }
+    ensures faulty { IfErr result (λ unserved. IsFaulty unserved.why) }
+    ensures kept_ok { IfOk result (λ office. K.held (keeper_in office) ≡ K.held keeper) }
+    ensures kept_err { IfErr result (λ unserved. K.held unserved.keeper ≡ K.held keeper) }
+    ensures cause_ok { IfOk result (λ office. K.faults keeper ≤ K.faults (keeper_in office)) }
+    ensures cause_err { IfErr result (λ unserved. HasWhyCause (K.faults keeper) (K.faults unserved.keeper)
+        (F.faults files.old) (F.faults files.new) unserved.why) }
+    ensures asked { OnOk result (C.moments clock.new ≡ option_map later (C.moments clock.old)) }
+    ensures once { IsAskedOnce (C.moments clock.old) (C.moments clock.new) }
+    ensures later { F.faults files.old ≤ F.faults files.new }
+    ensures same { F.told files.new ≡ F.told files.old }
+{
+    match read_project(alloc, files) {
+        Ok(opening) => {
+            // The moment of the opening, at which nothing is built so far.
+            let _opened = clock.now();
+            open_over(alloc, opening, keeper)
+        }
+        Err(why) => Err(Unserved { why, keeper }),
+    }
+}
+
+fn open_over<K: Keeper>(
+    alloc: Global,
+    opening: Opening,
+    keeper: K,
+) -> Result<Office<K>, Unserved<K>>
+    requires served { IsServed opening.loaded.model }
+    requires seeds { AreSeeds opening.loaded.model.schema.tables opening.seeds.items }
+    ensures opened { IfOk result (λ office. IsOpening opening.loaded.model opening.loaded.users (K.held keeper) opening.seeds.items
+        (Ok (standing_in office))) }
+    ensures unopened { IfErr result (λ unserved. IsWhy (λ reply. (fault : OpenFault) × Opens (open_line fault) reply
+        × IsOpening opening.loaded.model opening.loaded.users (K.held keeper) opening.seeds.items (Err fault)) unserved.why) }
+    ensures faulty { IfErr result (λ unserved. IsFaulty unserved.why) }
+    ensures kept_ok { IfOk result (λ office. K.held (keeper_in office) ≡ K.held keeper) }
+    ensures kept_err { IfErr result (λ unserved. K.held unserved.keeper ≡ K.held keeper) }
+    ensures cause_ok { IfOk result (λ office. K.faults keeper ≤ K.faults (keeper_in office)) }
+    ensures later { IfErr result (λ unserved. K.faults keeper ≤ K.faults unserved.keeper) }
+    ensures cause { IfErr result (λ unserved. unserved.why ≡ Why.Store → Rose (K.faults keeper) (K.faults unserved.keeper)) }
+    ensures never { IfErr result (λ unserved. unserved.why ≡ Why.Files → ⊥) }
+{
+    let Opening { loaded, seeds } = opening;
+    let Loaded { model, users } = loaded;
+    match Office::open(alloc, model, users, keeper, seeds.as_slice()) {
+        Ok(office) => Ok(office),
+        Err(Unopened { fault, keeper }) => Err(Unserved {
+            why: why_not(alloc, fault),
+            keeper,
+        }),
+    }
+}
+
+// Why an office did not open.
+fn why_not(alloc: Global, fault: OpenFault) -> Why
+    ensures told { OpensNot fault result }
+    ensures faulty { IsFaulty result }
+{
+    match fault {
+        OpenFault::Store => Why::Store,
+        OpenFault::NoMemory => Why::Memory,
+        fault => match open_fault(alloc, fault) {
+            Ok(fault) => tell(alloc, &fault),
+            Err(NoMemory) => Why::Memory,
+        },
+    }
+}
+
+// The line of a fault.
+fn tell(alloc: Global, fault: &ModelFault) -> Why
+    ensures told { TellsFault fault.now result }
+    ensures faulty { IsFaulty result }
+{
+    match fault {
+        ModelFault::Fault(line) => match fault_found(alloc, line) {
+            Ok(reply) => Why::Told(reply),
+            Err(NoMemory) => Why::Memory,
+        },
+        ModelFault::NoMemory => Why::Memory,
+    }
+}
+
+// The fault of an opening.
+fn open_fault(alloc: Global, fault: OpenFault) -> Result<ModelFault, NoMemory>
+    ensures { IfOk result (λ told. told ≡ open_fault fault) }
+{
+    match fault {
+        OpenFault::Unread(table, fault) => unread_fault(alloc, table, fault),
+        OpenFault::Seed(table, fault) => seed_fault(alloc, &table, fault),
+        OpenFault::Full => Ok(ModelFault::Fault(FaultLine {
+            code: Text::from_str(alloc, "L6")?,
+            path: Text::new(alloc),
+            place: 0,
+            name: Text::new(alloc),
+            other: Text::new(alloc),
+        })),
+        OpenFault::Store | OpenFault::NoMemory => Ok(ModelFault::NoMemory),
+    }
+}
+
+// The fault of a kept batch, by its table.
+fn unread_fault(alloc: Global, table: Text, fault: BatchFault) -> Result<ModelFault, NoMemory>
+    ensures { IfOk result (λ told. told ≡ unread_fault table fault) }
+{
+    let line = match fault {
+        BatchFault::L3 { row, column } => unread_line(alloc, table, row, "L3", column)?,
+        BatchFault::L4(key) => unread_line(alloc, table, 0, "L4", printed(alloc, key)?)?,
+        BatchFault::L5(row) => unread_line(alloc, table, row, "L5", Text::new(alloc))?,
+        BatchFault::NoMemory => return Ok(ModelFault::NoMemory),
+    };
+    Ok(ModelFault::Fault(line))
+}
+
+fn unread_line(
+    alloc: Global,
+    table: Text,
+    row: u32,
+    code: &str,
+    name: Text,
+) -> Result<FaultLine, NoMemory>
+    ensures { IfOk result (λ line. line ≡ unread_line table row code.now name) }
+{
+    Ok(FaultLine {
+        code: Text::from_str(alloc, "O1")?,
+        path: table,
+        place: row,
+        name: Text::from_str(alloc, code)?,
+        other: name,
+    })
+}
+
+fn printed(alloc: Global, key: Value) -> Result<Text, NoMemory>
+    ensures { IfOk result (λ text. text ≡ value_text key) }
+{
+    print_cell(alloc, &Cell::Value(key), &Shape::Plain)
+}
+
+// The project of the files, where it is served.
+fn read_project<F: Files>(alloc: Global, files: &mut F) -> Result<Opening, Why>
+    ensures project { IfSome (F.told files.old) (λ told. IfOk result (λ opening. IsProject told opening.loaded opening.seeds.items)) }
+    ensures line { IfSome (F.told files.old) (λ told. IfErr result (IsWhy (IsLine told))) }
+    ensures faulty { IfErr result IsFaulty }
+    ensures served { IfOk result (λ opening. IsServed opening.loaded.model) }
+    ensures seeds { IfOk result (λ opening. AreSeeds opening.loaded.model.schema.tables opening.seeds.items) }
+    ensures later { F.faults files.old ≤ F.faults files.new }
+    ensures cause { IfErr result (λ why. why ≡ Why.Files → Rose (F.faults files.old) (F.faults files.new)) }
+    ensures never { IfErr result (λ why. why ≡ Why.Store → ⊥) }
+    ensures same { F.told files.new ≡ F.told files.old }
+{
+    match load(alloc, files) {
+        Ok(loaded) => read_batches(alloc, files, loaded),
+        Err(fault) => Err(project_not(alloc, fault)),
+    }
+}
+
+// Why the project's files open nothing.
+fn project_not(alloc: Global, fault: ProjectFault) -> Why
+    ensures told { ProjectNot fault result }
+    ensures faulty { IsFaulty result }
+{
+    match fault {
+        ProjectFault::Model(line) => match fault_found(alloc, &line) {
+            Ok(reply) => Why::Told(reply),
+            Err(NoMemory) => Why::Memory,
+        },
+        ProjectFault::Failed => Why::Files,
+        ProjectFault::NoMemory => Why::Memory,
+    }
+}
+
+// The batches of a project's data files, where it is served.
+fn read_batches<F: Files>(alloc: Global, files: &mut F, loaded: Loaded) -> Result<Opening, Why>
+    ensures loaded { IfOk result (λ opening. opening.loaded ≡ loaded) }
+    ensures batches { IfSome (F.told files.old) (λ told. IfOk result (λ opening. (found : List Seed)
+        × (Ok found ≡ seeds_of loaded.model.schema.tables told) × (opening.seeds.items ≡ numbered 0 found))) }
+    ensures line { IfSome (F.told files.old) (λ told. IfErr result (IsWhy (IsUnserved told loaded))) }
+    ensures faulty { IfErr result IsFaulty }
+    ensures served { IfOk result (λ opening. IsServed loaded.model) }
+    ensures seeds { IfOk result (λ opening. AreSeeds loaded.model.schema.tables opening.seeds.items) }
+    ensures later { F.faults files.old ≤ F.faults files.new }
+    ensures cause { IfErr result (λ why. why ≡ Why.Files → Rose (F.faults files.old) (F.faults files.new)) }
+    ensures never { IfErr result (λ why. why ≡ Why.Store → ⊥) }
+    ensures same { F.told files.new ≡ F.told files.old }
+{
+    if !is_served(alloc, &loaded.model)? {
+        return Err(Why::Told(unanswered(alloc)?));
+    }
+    match read_seeds(alloc, files, &loaded.model.schema) {
+        Ok(seeds) => Ok(Opening {
+            loaded,
+            seeds: numbered(alloc, seeds)?,
+        }),
+        Err(fault) => Err(project_not(alloc, fault)),
+    }
+}
+
+// Whether a model is served: it is a resolved one, all its tables are stored, and it has no datagroups.
+fn is_served(alloc: Global, m: &Model) -> Result<bool, NoMemory>
+    ensures yes { IfOk result (λ is. is ≡ true → IsServed m.now) }
+    ensures no { IfOk result (λ is. is ≡ false → IsServed m.now → ⊥) }
+{
+    if !m.derived.is_empty() || !m.datagroups.is_empty() {
+        return Ok(false);
+    }
+    is_resolved(alloc, m)
+}
+
+// The batches of tables, each with its table's number.
+fn numbered(alloc: Global, seeds: Items<Option<Bytes>>) -> Result<Vec<(u32, Bytes)>, NoMemory>
+    ensures is { IfOk result (λ given. given.items ≡ numbered 0 seeds) }
+    ensures below { IfOk result (λ given. All (λ seed. seed.0 < length seeds) given.items) }
+{
+    let mut given = Vec::new(alloc);
+    let mut number = 0u32;
+    for seed in seeds.into_vec() {
+        add_seed(&mut given, number, seed)?;
+        number = number.checked_add(1).ok_or(NoMemory)?;
+    }
+    Ok(given)
+}
+
+fn add_seed(given: &mut Vec<(u32, Bytes)>, number: u32, seed: Option<Bytes>) -> Result<(), NoMemory>
+    ensures { OnOk result (given.new.items ≡ with_seed given.old.items number seed) }
+{
+    if let Some(body) = seed {
+        given.push((number, body))?;
+    }
+    Ok(())
+}
