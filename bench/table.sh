@@ -1,8 +1,10 @@
 #!/bin/sh
 # Times tables: the reading of a batch of 400,000 rows in three columns (16 MB), an append of 1,000 rows to 1,000,000,
 # a look at each of 1,000,000 numbers beside plain Rust over a `Vec<Option<i64>>`, and batches that are made to be
-# costly. With each line stands the most memory that its process took. A measurement, not a test: it builds a program in
-# a folder of its own, which proves it first.
+# costly. Then it fills tables of 4,000,000 numbers and of 4,000,000 texts, 1,000 of them different, by 16 loads; what a table
+# takes is the most memory of that process less that of one which reads a batch and keeps none. With each line stands the
+# most memory that its process took. A measurement, not a test: it builds a program in a folder of its own, which proves it
+# first, unless PROGRAM names one that was built of the source below.
 crates='lk_val lk_postfix lk_types lk_time lk_cell lk_csv lk_region lk_table'
 uses='lk_val lk_types lk_table'
 . "$(dirname "$0")/workspace.sh"
@@ -22,7 +24,10 @@ use std::io;
 use std::time::Instant;
 
 fn column(alloc: Global, name: &str, kind: Kind) -> Result<ColumnDef, NoMemory> {
-    Ok(ColumnDef { name: Text::from_str(alloc, name)?, kind })
+    Ok(ColumnDef {
+        name: Text::from_str(alloc, name)?,
+        kind,
+    })
 }
 
 fn orders(alloc: Global) -> Result<TableDef, NoMemory> {
@@ -30,7 +35,11 @@ fn orders(alloc: Global) -> Result<TableDef, NoMemory> {
     columns.push(column(alloc, "id", Kind::Number)?)?;
     columns.push(column(alloc, "region", Kind::Text)?)?;
     columns.push(column(alloc, "total", Kind::Number)?)?;
-    Ok(TableDef { name: Text::from_str(alloc, "orders")?, columns, key: Some(0) })
+    Ok(TableDef {
+        name: Text::from_str(alloc, "orders")?,
+        columns,
+        key: Some(0),
+    })
 }
 
 // So many rows of 40 bytes, by their ids.
@@ -44,6 +53,27 @@ fn batch(alloc: Global, first: u32, count: u32) -> Result<Bytes, NoMemory> {
     Ok(text)
 }
 
+// A table of one column that is no key.
+fn single(alloc: Global, kind: Kind) -> Result<TableDef, NoMemory> {
+    let mut columns = Items::new(alloc);
+    columns.push(column(alloc, "cell", kind)?)?;
+    Ok(TableDef {
+        name: Text::from_str(alloc, "cells")?,
+        columns,
+        key: None,
+    })
+}
+
+// 250,000 cells of ten bytes, 1,000 of them different.
+fn cells(alloc: Global) -> Result<Bytes, NoMemory> {
+    let mut text = Bytes::from_slice(alloc, b"cell\n")?;
+    for i in 0..250_000u32 {
+        let cell = 1_000_000_000 + i % 1_000;
+        text.append(format!(in alloc; "{cell}\n")?.as_bytes())?;
+    }
+    Ok(text)
+}
+
 fn repeated(alloc: Global, front: &[u8], piece: &[u8], count: u32) -> Result<Bytes, NoMemory> {
     let mut text = Bytes::from_slice(alloc, front)?;
     for _ in 0..count {
@@ -52,8 +82,10 @@ fn repeated(alloc: Global, front: &[u8], piece: &[u8], count: u32) -> Result<Byt
     Ok(text)
 }
 
-fn costly(alloc: Global, what: &str) -> Result<Bytes, NoMemory> {
-    if what == "records" {
+fn text_of(alloc: Global, what: &str) -> Result<Bytes, NoMemory> {
+    if what == "batch" {
+        batch(alloc, 100_000, 400_000)
+    } else if what == "records" {
         repeated(alloc, b"id,region,total\n", b"x\n", 8_000_000)
     } else if what == "record" {
         repeated(alloc, b"id,region,total\n", b"x,", 8_000_000)
@@ -66,12 +98,42 @@ fn costly(alloc: Global, what: &str) -> Result<Bytes, NoMemory> {
     }
 }
 
-fn load(alloc: Global, def: &TableDef, table: &TableVersion, text: &Bytes) -> Result<TableVersion, BatchFault>
+fn load(
+    alloc: Global,
+    def: &TableDef,
+    table: &TableVersion,
+    text: &Bytes,
+) -> Result<TableVersion, BatchFault>
     requires { IsShaped (map kind_of def.now.columns) def.now.key table.now }
     ensures { IfOk result (λ version. IsShaped (map kind_of def.now.columns) def.now.key version) }
 {
     let read = read_batch(alloc, def, text.as_slice())?;
     apply(alloc, table, &read, false)
+}
+
+// The table after so many loads of the text.
+fn grown(
+    alloc: Global,
+    def: &TableDef,
+    table: TableVersion,
+    text: &Bytes,
+    loads: u32,
+) -> Result<TableVersion, BatchFault>
+    requires { IsShaped (map kind_of def.now.columns) def.now.key table }
+{
+    if loads == 0 {
+        return Ok(table);
+    }
+    let more = load(alloc, def, &table, text)?;
+    grown(alloc, def, more, text, loads - 1)
+}
+
+fn filled(alloc: Global, kind: Kind, loads: u32) -> Result<u64, BatchFault> {
+    let def = single(alloc, kind)?;
+    let text = cells(alloc)?;
+    let _read = read_batch(alloc, &def, text.as_slice())?;
+    let table = grown(alloc, &def, TableVersion::empty(alloc, &def)?, &text, loads)?;
+    Ok(size(&table).cells)
 }
 
 fn total(table: &TableVersion) -> i64 {
@@ -85,59 +147,82 @@ fn total(table: &TableVersion) -> i64 {
     sum
 }
 
-fn main(rt: HostRuntime) -> io::Result<()> {
-    for line in rt.lines(rt.alloc()) {
-        let line = line?;
-        let what = line.as_str();
-        if what == "read" {
-            let (Ok(def), Ok(text)) = (orders(rt.alloc()), batch(rt.alloc(), 100_000, 400_000)) else {
-                continue;
-            };
-            let begun = Instant::now(&rt)?;
-            let found = read_batch(rt.alloc(), &def, text.as_slice()).is_ok();
-            let took = begun.elapsed(&rt)?.as_millis();
-            let size = text.len();
-            println!(&rt; "a batch of {size} bytes: {took} ms, read: {found}")?;
-        } else if what == "append" {
-            append(&rt)?;
-        } else {
-            let (Ok(def), Ok(text)) = (orders(rt.alloc()), costly(rt.alloc(), what)) else {
-                continue;
-            };
-            let begun = Instant::now(&rt)?;
-            let found = read_batch(rt.alloc(), &def, text.as_slice()).is_ok();
-            let took = begun.elapsed(&rt)?.as_millis();
-            println!(&rt; "{what}: {took} ms, read: {found}")?;
-        }
-    }
-    Ok(())
+fn look(rt: &HostRuntime, table: &TableVersion) -> io::Result<()> {
+    let begun = Instant::now(rt)?;
+    let sum = total(table);
+    let took = begun.elapsed(rt)?.as_micros();
+    println!(rt; "1,000,000 numbers of a table: {took} us, {sum}")
+}
+
+fn million(alloc: Global, def: &TableDef) -> Result<TableVersion, BatchFault>
+    ensures { IfOk result (λ version. IsShaped (map kind_of def.now.columns) def.now.key version) }
+{
+    let text = batch(alloc, 0, 1_000_000)?;
+    let empty = TableVersion::empty(alloc, def)?;
+    load(alloc, def, &empty, &text)
 }
 
 fn append(rt: &HostRuntime) -> io::Result<()> {
     let alloc = rt.alloc();
-    let (Ok(def), Ok(most), Ok(more)) = (orders(alloc), batch(alloc, 0, 1_000_000), batch(alloc, 1_000_000, 1_000)) else {
+    let (Ok(def), Ok(more)) = (orders(alloc), batch(alloc, 1_000_000, 1_000)) else {
         return Ok(());
     };
-    let Ok(empty) = TableVersion::empty(alloc, &def) else {
-        return Ok(());
-    };
-    let Ok(table) = load(alloc, &def, &empty, &most) else {
+    let Ok(table) = million(alloc, &def) else {
         return Ok(());
     };
     let begun = Instant::now(rt)?;
-    let appended = load(alloc, &def, &table, &more);
+    let is_appended = load(alloc, &def, &table, &more).is_ok();
     let took = begun.elapsed(rt)?.as_micros();
-    let cells = match &appended {
-        Ok(version) => size(version).cells,
-        Err(_) => 0,
+    println!(rt; "1,000 rows behind 1,000,000: {took} us, appended: {is_appended}")?;
+    look(rt, &table)
+}
+
+fn fill(rt: &HostRuntime, kind: &str, loads: &str) -> io::Result<()> {
+    let column = if kind == "numbers" {
+        Kind::Number
+    } else {
+        Kind::Text
     };
-    println!(rt; "1,000 rows behind 1,000,000: {took} us, {cells} cells")?;
+    let loads = loads.parse::<u32>().unwrap_or(0);
+    let cells = filled(rt.alloc(), column, loads).unwrap_or(0);
+    println!(rt; "{kind}, {loads} loads: {cells} cells")
+}
+
+fn read(rt: &HostRuntime, what: &str) -> io::Result<()> {
+    let (Ok(def), Ok(text)) = (orders(rt.alloc()), text_of(rt.alloc(), what)) else {
+        return Ok(());
+    };
+    let size = text.len();
     let begun = Instant::now(rt)?;
-    let sum = total(&table);
-    let took = begun.elapsed(rt)?.as_micros();
-    println!(rt; "1,000,000 numbers of a table: {took} us, {sum}")?;
+    let is_read = read_batch(rt.alloc(), &def, text.as_slice()).is_ok();
+    let took = begun.elapsed(rt)?.as_millis();
+    println!(rt; "{what}: {size} bytes in {took} ms, read: {is_read}")
+}
+
+fn run(rt: &HostRuntime, what: &str) -> io::Result<()> {
+    if what == "append" {
+        return append(rt);
+    }
+    match what.split_once(" ") {
+        Some((kind, loads)) => fill(rt, kind, loads),
+        None => read(rt, what),
+    }
+}
+
+fn main(rt: HostRuntime) -> io::Result<()> {
+    for line in rt.lines(rt.alloc()) {
+        let line = line?;
+        run(&rt, line.as_str())?;
+    }
     Ok(())
 }
+END
+mkdir -p "$work/crates/timing/proofs/+grown"
+cat >"$work/crates/timing/proofs/+grown/Invariants.antt" <<'END'
+use Rattle.timing.proofs.+grown.Given as goal
+
+abbrev pub decreases-grown : goal.decreases-grown
+decreases-grown l = l.loads
 END
 cat >"$work/plain.rs" <<'END'
 // The same numbers in plain Rust.
@@ -156,8 +241,12 @@ fn main() {
 }
 END
 (cd "$work" && rustc -O -o plain plain.rs) || exit 1
-(cd "$work/crates/timing" && touch stdin && rt run) >"$work/build.log" 2>&1 || { tail -n 40 "$work/build.log"; exit 1; }
-for what in read append records record quote lines names; do
-    echo "$what" | /usr/bin/time -f '  at most %M KB of memory' "$work/crates/timing/out/timing"
+if [ -z "$PROGRAM" ]; then
+    (cd "$work/crates/timing" && touch stdin && rt run) >"$work/build.log" 2>&1
+    PROGRAM=$work/crates/timing/out/timing
+    [ -x "$PROGRAM" ] || { tail -n 40 "$work/build.log"; exit 1; }
+fi
+for what in batch append records record quote lines names 'numbers 0' 'numbers 16' 'texts 0' 'texts 16'; do
+    echo "$what" | /usr/bin/time -f '  at most %M KB of memory' "$PROGRAM"
 done
 /usr/bin/time -f '  at most %M KB of memory' "$work/plain"
