@@ -4,9 +4,9 @@ use lk_val::{Bytes, Items, NoMemory, Text};
 use std::alloc::Global;
 use std::test::Fail;
 
-const MODEL: &str = "view: orders { measure: count { type: count } } explore: orders {}";
+pub(crate) const MODEL: &str = "view: orders { measure: count { type: count } } explore: orders {}";
 
-const SCHEMA: &str = "table,column,kind,key\norders,id,number,yes\n";
+pub(crate) const SCHEMA: &str = "table,column,kind,key\norders,id,number,yes\n";
 
 const USERS: &str = "user,attribute,value\nann,,\n";
 
@@ -39,14 +39,14 @@ const NOTHING: Failing = Failing {
     room: 4096,
 };
 
-fn file(alloc: Global, path: &str, body: &str) -> Result<File, NoMemory> {
+pub(crate) fn file(alloc: Global, path: &str, body: &str) -> Result<File, NoMemory> {
     Ok(File {
         path: Text::from_str(alloc, path)?,
         body: Bytes::from_slice(alloc, body.as_bytes())?,
     })
 }
 
-fn calls(alloc: Global, number: Option<u64>) -> Result<Items<u64>, NoMemory> {
+pub(crate) fn calls(alloc: Global, number: Option<u64>) -> Result<Items<u64>, NoMemory> {
     let mut calls = Items::new(alloc);
     if let Some(number) = number {
         calls.push(number)?;
@@ -63,7 +63,7 @@ fn files(alloc: Global, failing: Option<u64>) -> Result<MemFiles, NoMemory> {
     MemFiles::new(alloc, files, calls(alloc, failing)?)
 }
 
-fn clock(alloc: Global) -> Result<MemClock, NoMemory> {
+pub(crate) fn clock(alloc: Global) -> Result<MemClock, NoMemory> {
     let mut moments = Items::new(alloc);
     moments.push(0)?;
     Ok(MemClock::new(moments))

@@ -1,5 +1,7 @@
-//! Runs whose files, input or output fail.
+//! Runs whose files, input, output or store fail.
 #![tactic(auto)]
 
 #[cfg(test)]
 mod failing;
+#[cfg(test)]
+mod sessions;
