@@ -1,8 +1,13 @@
 mod AnswerLemmas
 mod FieldLemmas
 mod HeadLemmas
+mod ParamLemmas
+mod PieceLemmas
 mod PlaceLemmas
 mod ReadingLemmas
 mod ReplyLemmas
+mod RouteLemmas
+mod SeekLemmas
 mod TargetLemmas
 mod WayLemmas
+mod WordLemmas

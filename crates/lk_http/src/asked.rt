@@ -3,14 +3,16 @@ ghost use Rattle.httparse.specs.Borrowed.{header_parts};
 ghost use Rattle.lk_http.specs.Fields.{user_of};
 ghost use Rattle.lk_http.specs.Judged.{IsWhole};
 ghost use Rattle.lk_http.specs.Reading.{IsAsked};
-ghost use Rattle.lk_http.specs.Routes.{target_of};
+ghost use Rattle.lk_http.specs.Routes.{server_routes, target_of};
 
 use crate::faults::HttpFault;
 use crate::fields::{body_length, closes, user_of};
 use crate::request::Target;
 use crate::route::find_target;
+use crate::routes::Route;
 use httparse::{EMPTY_HEADER, Header, Request, Status};
 use lk_val::{NoMemory, Text};
+use matchit::Router;
 use std::alloc::Global;
 
 // What a head asks for.
@@ -32,8 +34,9 @@ pub(crate) struct Parts {
 }
 
 // What a whole head asks for.
-pub(crate) fn read_asked(alloc: Global, head: &[u8]) -> Asked
-    requires { IsWhole head.now }
+pub(crate) fn read_asked(alloc: Global, router: &Router<Route>, head: &[u8]) -> Asked
+    requires whole { IsWhole head.now }
+    requires routes { router.now ≡ server_routes }
     ensures { IsAsked head.now result }
 {
     let mut headers = [EMPTY_HEADER; 64];
@@ -51,16 +54,22 @@ pub(crate) fn read_asked(alloc: Global, head: &[u8]) -> Asked
         post,
         close: closes(minor, headers),
         length: body_length(post, headers),
-        parts: copy_parts(alloc, path, headers),
+        parts: copy_parts(alloc, router, path, headers),
     }
 }
 
-fn copy_parts(alloc: Global, path: &str, headers: &[Header<'_>]) -> Result<Parts, NoMemory>
+fn copy_parts(
+    alloc: Global,
+    router: &Router<Route>,
+    path: &str,
+    headers: &[Header<'_>],
+) -> Result<Parts, NoMemory>
+    requires { router.now ≡ server_routes }
     ensures { IfOk result (λ parts. (parts.user ≡ user_of (map header_parts headers.now))
         × (parts.target ≡ target_of path.now)) }
 {
     Ok(Parts {
         user: Text::from_str(alloc, user_of(headers))?,
-        target: find_target(alloc, path)?,
+        target: find_target(alloc, router, path)?,
     })
 }

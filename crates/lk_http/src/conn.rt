@@ -10,37 +10,42 @@ use crate::faults::HttpFault;
 use crate::head::HEAD_LIMIT;
 use crate::reading::{Front, read_body, read_head};
 use crate::request::{Got, Request};
+use crate::routes::{Route, server_router};
 use lk_io::Link;
 use lk_val::{Bytes, NoMemory};
+use matchit::Router;
 use std::alloc::Global;
 use std::marker::Model;
 
-/// The reader of a connection: the memory for heads, and whether the last request asked to close. Clauses see
-/// the latter.
+/// The reader of a connection: the memory for heads, the router, and whether the last request asked to close. Clauses see the
+/// last alone.
 #[derive(Drop)]
 pub struct Conn {
     head: Vec<u8>,
+    router: Router<Route>,
     close: bool,
 }
 
 impl Model for Conn {
-    ghost use Rattle.std.specs.Prelude.{Bool, ◌≤◌};
+    ghost use Rattle.std.specs.Prelude.{◌≡◌, ◌≤◌, Bool};
     ghost use Rattle.std.specs.Vec.{vec_capacity};
+    ghost use Rattle.lk_http.specs.Routes.{server_routes};
 
     ghost Value = { Bool };
 
     ghost view = { λ conn. conn.close };
 
-    ghost invariant = { λ conn. 16384 ≤ vec_capacity conn.head };
+    ghost invariant = { λ conn. (16384 ≤ vec_capacity conn.head) × (conn.router ≡ server_routes) };
 }
 
 impl Conn {
-    /// A reader, with the memory for a head of 16,384 bytes, so that reading a head takes none.
+    /// A reader, with the routes of the server and the memory for a head of 16,384 bytes, so that reading a head takes none.
     pub fn new(alloc: Global) -> Result<Conn, NoMemory>
         ensures { IfOk result (λ conn. conn ≡ false) }
     {
         Ok(Conn {
             head: Vec::with_capacity(alloc, HEAD_LIMIT)?,
+            router: server_router(alloc)?,
             close: false,
         })
     }
@@ -67,7 +72,7 @@ pub fn read_request<L: Link>(alloc: Global, link: &mut L, conn: &mut Conn) -> Re
     match read_head(link, &mut conn.head)? {
         Front::Ended => Ok(Got::End),
         Front::Head => {
-            let asked = read_asked(alloc, conn.head.as_slice());
+            let asked = read_asked(alloc, &conn.router, conn.head.as_slice());
             conn.close = asked.close;
             let body = read_body(alloc, link, asked.length?)?;
             route(asked, body)

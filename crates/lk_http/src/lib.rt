@@ -11,6 +11,7 @@ mod reading;
 mod reply;
 mod request;
 mod route;
+mod routes;
 
 pub use conn::{Conn, read_request};
 pub use faults::HttpFault;

@@ -1,17 +1,27 @@
-ghost use Rattle.std.specs.Prelude.{◌≡◌, ◌==◌, IfOk, None, Some, map};
+ghost use Rattle.std.specs.Prelude.{◌≡◌, ◌==◌, IfOk, Some, map};
 ghost use Rattle.std.specs.List.{list_all, slice_split};
-ghost use Rattle.lk_http.specs.Routes.{check_of, is_id, is_id_byte, is_name, is_name_byte, is_word, load_as, load_of, mode_of, query_of, target_in, target_of};
+ghost use Rattle.lk_http.specs.Routes.{is_id, is_id_byte, is_name, is_name_byte, load_of, query_of, server_routes, target_by, target_of};
 
 use crate::request::Target;
+use crate::routes::Route;
 use lk_val::{NoMemory, Text};
+use matchit::Router;
 use std::alloc::{AllocError, Global};
 
 /// The target of a path, where a route leads to it. (lookd)
-pub(crate) fn find_target(alloc: Global, path: &str) -> Result<Option<Target>, NoMemory>
+pub(crate) fn find_target(
+    alloc: Global,
+    router: &Router<Route>,
+    path: &str,
+) -> Result<Option<Target>, NoMemory>
+    requires { router.now ≡ server_routes }
     ensures { IfOk result (λ target. target ≡ target_of path.now) }
 {
+    let Ok(found) = router.at(path) else {
+        return Ok(None);
+    };
     let pieces = cut(alloc, path)?;
-    target_in(alloc, pieces.as_slice())
+    target_by(alloc, pieces.as_slice(), *found.value)
 }
 
 // What stands between slashes.
@@ -21,67 +31,38 @@ fn cut(alloc: Global, path: &str) -> Result<Vec<&str>, AllocError>
     path.split('/').collect(alloc)
 }
 
-fn target_in(alloc: Global, pieces: &[&str]) -> Result<Option<Target>, NoMemory>
-    ensures { IfOk result (λ target. target ≡ target_in (map (λ p. p.now) pieces.now)) }
+// The target of a route's pieces.
+fn target_by(alloc: Global, pieces: &[&str], route: Route) -> Result<Option<Target>, NoMemory>
+    ensures { IfOk result (λ target. target ≡ target_by (map (λ p. p.now) pieces.now) route) }
 {
-    match pieces {
-        ["", command] => Ok(check_of(command)),
-        ["", command, explore] => query_of(alloc, command, explore),
-        ["", command, table, mode, id] => load_of(alloc, command, table, mode, id),
+    match (route, pieces) {
+        (Route::Check, _) => Ok(Some(Target::Check)),
+        (Route::Query, [_, _, explore]) => query_of(alloc, explore),
+        (Route::Append, [_, _, table, _, id]) => load_of(alloc, table, false, id),
+        (Route::Replace, [_, _, table, _, id]) => load_of(alloc, table, true, id),
         _ => Ok(None),
     }
 }
 
-fn check_of(command: &str) -> Option<Target>
-    ensures { result ≡ check_of command.now }
+fn query_of(alloc: Global, explore: &str) -> Result<Option<Target>, NoMemory>
+    ensures { IfOk result (λ target. target ≡ query_of explore.now) }
 {
-    if command == "check" {
-        Some(Target::Check)
-    } else {
-        None
-    }
-}
-
-fn query_of(alloc: Global, command: &str, explore: &str) -> Result<Option<Target>, NoMemory>
-    ensures { IfOk result (λ target. target ≡ query_of command.now explore.now) }
-{
-    if command == "query" && is_name(explore) {
+    if is_name(explore) {
         Ok(Some(Target::Query(Text::from_str(alloc, explore)?)))
     } else {
         Ok(None)
     }
 }
 
-fn load_of(
-    alloc: Global,
-    command: &str,
-    table: &str,
-    mode: &str,
-    id: &str,
-) -> Result<Option<Target>, NoMemory>
-    ensures { IfOk result (λ target. target ≡ load_of command.now table.now mode.now id.now) }
+fn load_of(alloc: Global, table: &str, replaces: bool, id: &str) -> Result<Option<Target>, NoMemory>
+    ensures { IfOk result (λ target. target ≡ load_of table.now replaces id.now) }
 {
-    if command != "load" || !is_name(table) || !is_id(id) {
-        return Ok(None);
-    }
-    let Some(replaces) = mode_of(mode) else {
-        return Ok(None);
-    };
-    Ok(Some(Target::Load(
-        Text::from_str(alloc, table)?,
-        replaces,
-        Text::from_str(alloc, id)?,
-    )))
-}
-
-// Whether a load's mode replaces the rows of the table.
-fn mode_of(mode: &str) -> Option<bool>
-    ensures { result ≡ mode_of mode.now }
-{
-    match mode {
-        "append" => Some(false),
-        "replace" => Some(true),
-        _ => None,
+    if is_name(table) && is_id(id) {
+        let table = Text::from_str(alloc, table)?;
+        let id = Text::from_str(alloc, id)?;
+        Ok(Some(Target::Load(table, replaces, id)))
+    } else {
+        Ok(None)
     }
 }
 
