@@ -2,9 +2,9 @@
 # Times the store of loads in a file beside Python's sqlite3 on the same disk: 100 saves of 1,000 rows on average, with the same
 # transactions, the same journal and the same syncs; and the opening of a store of 1,000 batches of 16 KB with the reading of
 # all that it holds. The program is timed from outside: its saves by the lines that it prints, and the reading from its start to
-# its first line. Each is run seven times, in turns; the middle and the least are told. Then it looks whether Debian's
-# `sqlite3` reads what Python reads, also in a backup that it made, and what it says of a store that is open. A measurement,
-# not a test: it builds the program of `saves.sh`, unless PROGRAM names one.
+# its first line, in time that passed and in time that the processor worked. Each is run seven times, in turns; the middle and
+# the least are told. Then it looks whether Debian's `sqlite3` reads what Python reads, also in a backup that it made, and what
+# it says of a store that is open. A measurement, not a test: it builds the program of `saves.sh`, unless PROGRAM names one.
 . "$(dirname "$0")/saves.sh"
 cat >"$work/keep.py" <<'PYTHON'
 import os
@@ -38,6 +38,9 @@ def copied(path, to):
     for end in ("", "-wal"):
         if os.path.exists(path + end):
             shutil.copy(path + end, to + end)
+            # A copy that is still to be written would be written by the opening, which syncs the file.
+            with open(to + end, "rb+") as copy:
+                os.fsync(copy.fileno())
     return to
 
 
@@ -101,8 +104,9 @@ def read_by_program(path):
     with subprocess.Popen([program, path], stdout=subprocess.PIPE, text=True) as run:
         assert run.stdout.readline() == "opened at 1000\n"
         took = time.perf_counter() - begun
+        worked = int(open(f"/proc/{run.pid}/schedstat").read().split()[0]) / 1e6
         run.kill()
-    return took * 1000
+    return took * 1000, worked
 
 
 def rows_of(db):
@@ -112,13 +116,13 @@ def rows_of(db):
 
 
 def read_by_python(path):
-    begun = time.perf_counter()
+    begun, worked = time.perf_counter(), time.process_time()
     db = sqlite3.connect(path)
     rows = rows_of(db)
-    took = time.perf_counter() - begun
+    took, worked = time.perf_counter() - begun, time.process_time() - worked
     assert len(rows[1]) == len(rows[2]) == 1000
     db.close()
-    return took * 1000
+    return took * 1000, worked * 1000
 
 
 def told(name, ours, python):
@@ -145,8 +149,9 @@ def compared(path):
 store = f"{folder}/ours.db"
 told(f"{SAVES} saves", *zip(*((saved_by_program(gone(store)), saved_by_python(gone(f"{folder}/theirs.db"))) for _ in range(7))))
 full = filled(gone(f"{folder}/full.db"))
-told("opening and reading 1,000 batches of 16 KB", *zip(*(
-    (read_by_program(copied(full, f"{folder}/first.db")), read_by_python(copied(full, f"{folder}/second.db"))) for _ in range(7))))
+ours, python = zip(*((read_by_program(copied(full, f"{folder}/first.db")), read_by_python(copied(full, f"{folder}/second.db"))) for _ in range(7)))
+for name, at in (("opening and reading 1,000 batches of 16 KB", 0), ("the processor's time for it", 1)):
+    told(name, [times[at] for times in ours], [times[at] for times in python])
 print("Debian's sqlite3 reads the same rows of a store, and of its backup:", *compared(store))
 with subprocess.Popen([program, gone(store)], stdout=subprocess.PIPE, text=True) as run:
     run.stdout.readline()

@@ -1,4 +1,5 @@
 pub mod Causes
 pub mod Memory
+pub mod Saved
 pub mod Saving
 pub mod System

@@ -1,7 +1,8 @@
 -- What the store of a run tells and counts.
-use Rattle.std.specs.Prelude.{ℕ, Option, Some, None}
+use Rattle.std.specs.Prelude.{◌≡◌, ℕ, Option, Some, None}
 use Rattle.lk_keep.specs.declared.held.Held.{Held}
 use Rattle.lk_keep.specs.declared.held.Held.TheVariants.{Memory, File}
+use Rattle.lk_keep.specs.Saved.{IsSaved}
 use Rattle.lk_keep.specs.declared.kept.Kept.{Kept}
 use Rattle.lk_keep.specs.declared.sql_keeper.SqlKeeper.{SqlKeeper}
 
@@ -13,6 +14,11 @@ sql_faults keeper = keeper.faults
 abbrev pub told_by : Held → Option Kept
 told_by (Memory keeper) = Some keeper.kept
 told_by (File keeper) = None
+
+-- what may be handed over: of a store in memory what it holds, and of one in a file what saves can have left
+abbrev pub handed_by : Held → Kept → Type 0
+handed_by (Memory keeper) kept = kept ≡ keeper.kept
+handed_by (File keeper) kept = IsSaved kept
 
 -- the calls that failed
 abbrev pub faults_of : Held → ℕ

@@ -1,4 +1,4 @@
-ghost use Rattle.lk_keep.specs.System.{told_by, faults_of};
+ghost use Rattle.lk_keep.specs.System.{told_by, handed_by, faults_of};
 
 use crate::command::Command;
 use crate::faults::KeepFault;
@@ -17,6 +17,8 @@ pub enum Held {
 
 impl Keeper for Held {
     ghost held = { told_by };
+
+    ghost handed = { handed_by };
 
     ghost faults = { faults_of };
 

@@ -14,12 +14,16 @@ pub trait Keeper: Send {
     /// What the store holds, where the object tells.
     ghost held: { Self → Option Kept };
 
+    /// What the object may hand over, also where it does not tell.
+    ghost handed: { Self → Kept → Type 0 };
+
     /// How many calls failed.
     ghost faults: { Self → ℕ };
 
     /// All that the store holds.
     fn load_all(&mut self, alloc: Global) -> Result<Kept, KeepFault>
         ensures kept { IfOk result (λ kept. IfSome (held self.old) (λ told. kept ≡ told)) }
+        ensures handed { IfOk result (handed self.old) }
         ensures same { held self.new ≡ held self.old }
         ensures cause { HasKeepCause (faults self.old) (faults self.new) result };
 

@@ -112,6 +112,8 @@ fn copy_each<T: Copied + Drop>(alloc: Global, items: &[T]) -> Result<Items<T>, N
 impl Keeper for MemKeeper {
     ghost held = { λ keeper. Some keeper.kept };
 
+    ghost handed = { λ keeper kept. kept ≡ keeper.kept };
+
     ghost faults = { λ keeper. keeper.calls.faults };
 
     fn load_all(&mut self, alloc: Global) -> Result<Kept, KeepFault>

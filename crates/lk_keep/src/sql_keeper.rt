@@ -1,9 +1,11 @@
-ghost use Rattle.std.specs.Prelude.{◌≡◌, None};
+ghost use Rattle.std.specs.Prelude.{◌≡◌, None, IfOk};
 ghost use Rattle.lk_keep.specs.Causes.{HasKeepCause};
+ghost use Rattle.lk_keep.specs.Saved.{IsSaved};
 ghost use Rattle.lk_keep.specs.System.{sql_faults};
 
 mod id;
 mod reading;
+mod saves;
 mod writing;
 
 use crate::command::Command;
@@ -73,6 +75,7 @@ impl SqlKeeper {
     }
 
     fn read(&mut self, alloc: Global) -> Result<Kept, KeepFault>
+        ensures saved { IfOk result IsSaved }
         ensures same { sql_faults self.new ≡ sql_faults self.old }
     {
         let mut connection = self.take_opened()?;
@@ -101,6 +104,7 @@ impl SqlKeeper {
 
     // Counts a call's fault.
     fn count<T>(&mut self, answer: Result<T, KeepFault>) -> Result<T, KeepFault>
+        ensures same { result ≡ answer }
         ensures cause { HasKeepCause (sql_faults self.old) (sql_faults self.new) result }
     {
         if let Err(KeepFault::Failed) = &answer {
@@ -113,10 +117,14 @@ impl SqlKeeper {
 impl Keeper for SqlKeeper {
     ghost held = { λ _. None };
 
+    ghost handed = { λ _ kept. IsSaved kept };
+
     ghost faults = { λ keeper. sql_faults keeper };
 
     fn load_all(&mut self, alloc: Global) -> Result<Kept, KeepFault>
         ensures cause { HasKeepCause (sql_faults self.old) (sql_faults self.new) result }
+
+        ensures saved { IfOk result IsSaved }
     {
         let answer = self.read(alloc);
         self.count(answer)

@@ -1,7 +1,11 @@
 // What the tables of a store hold. Rows that no save writes are refused.
+ghost use Rattle.std.specs.Prelude.{◌≡◌, Ok, Err, IfOk, if◌then◌else◌, length};
+ghost use Rattle.lk_keep.specs.Saved.{IsSaved, are_saves};
+
 use crate::faults::KeepFault;
 use crate::kept::{Chunk, Kept, KeptId};
 use crate::sql_keeper::id::is_id;
+use crate::sql_keeper::saves::are_saves;
 use lk_val::{Bytes, Items, Text};
 use sqlite::{Alter, Connection, Row};
 use std::alloc::Global;
@@ -15,19 +19,64 @@ CREATE TABLE chunks (number INTEGER PRIMARY KEY, target TEXT NOT NULL, body BLOB
 CREATE TABLE ids (id TEXT PRIMARY KEY, number INTEGER NOT NULL, rows INTEGER NOT NULL) STRICT;\
 INSERT INTO state (one, version, number) VALUES (1, 1, 0)";
 
+// The batches of a store, and the number of each.
+#[derive(Drop)]
+struct Batches {
+    numbers: Items<u64>,
+    chunks: Items<Chunk>,
+}
+
+impl Batches {
+    fn none(alloc: Global) -> Batches
+        ensures { length result.numbers ≡ length result.chunks }
+    {
+        Batches {
+            numbers: Items::new(alloc),
+            chunks: Items::new(alloc),
+        }
+    }
+
+    // Adds that of a row.
+    fn add(&mut self, row: &Row) -> Result<(), KeepFault>
+        ensures { IfOk result (λ _. length self.old.numbers ≡ length self.old.chunks
+            → length self.new.numbers ≡ length self.new.chunks) }
+    {
+        self.numbers.push(row.get(0)?)?;
+        self.chunks.push(chunk_of(row)?)?;
+        Ok(())
+    }
+}
+
 // All that the store holds; an empty store is given its tables first.
 pub(crate) fn read_store<S: Alter>(
     alloc: Global,
     connection: &mut Connection<S>,
-) -> Result<Kept, KeepFault> {
+) -> Result<Kept, KeepFault>
+    ensures saved { IfOk result IsSaved }
+{
     if is_new(connection)? {
         make_tables(connection)?;
     }
     let number = read_number(connection)?;
+    let batches = read_batches(alloc, connection)?;
+    let ids = read_ids(alloc, connection)?;
+    kept_of(number, batches, ids)
+}
+
+// What is handed over, unless saves cannot have left it.
+fn kept_of(number: u64, batches: Batches, ids: Items<KeptId>) -> Result<Kept, KeepFault>
+    requires { length batches.numbers ≡ length batches.chunks }
+    ensures value { result ≡ (if are_saves number ids batches.numbers
+        then Ok (record { number = number; chunks = batches.chunks; ids = ids }) else Err KeepFault.Failed) }
+    ensures saved { IfOk result IsSaved }
+{
+    if !are_saves(number, ids.as_slice(), batches.numbers.as_slice()) {
+        return Err(KeepFault::Failed);
+    }
     Ok(Kept {
         number,
-        chunks: read_chunks(alloc, connection, number)?,
-        ids: read_ids(alloc, connection, number)?,
+        chunks: batches.chunks,
+        ids,
     })
 }
 
@@ -66,24 +115,28 @@ fn number_of(rows: &[Row]) -> Result<u64, KeepFault> {
     Ok(row.get(2)?)
 }
 
-fn read_chunks<S: Alter>(
+// The rows are read one at a time, so that no body is in memory twice.
+fn read_batches<S: Alter>(
     alloc: Global,
     connection: &mut Connection<S>,
-    last: u64,
-) -> Result<Items<Chunk>, KeepFault> {
-    let rows = connection.query_all(
+) -> Result<Batches, KeepFault>
+    ensures { IfOk result (λ batches. length batches.numbers ≡ length batches.chunks) }
+{
+    let mut batches = Batches::none(alloc);
+    let mut rows = connection.query(
         "SELECT number, target, body FROM chunks ORDER BY number",
         &[],
     )?;
-    let mut chunks = Items::new(alloc);
-    for row in rows.as_slice() {
-        chunks.push(chunk_of(row, last)?)?;
+    'rows: for _ in 0..u64::MAX {
+        let Some(row) = rows.next()? else {
+            return Ok(batches);
+        };
+        batches.add(row)?;
     }
-    Ok(chunks)
+    Err(KeepFault::Failed)
 }
 
-fn chunk_of(row: &Row, last: u64) -> Result<Chunk, KeepFault> {
-    saved_number(row, 0, last)?;
+fn chunk_of(row: &Row) -> Result<Chunk, KeepFault> {
     let table: String = row.get(1)?;
     let body: Vec<u8> = row.get(2)?;
     Ok(Chunk {
@@ -95,33 +148,23 @@ fn chunk_of(row: &Row, last: u64) -> Result<Chunk, KeepFault> {
 fn read_ids<S: Alter>(
     alloc: Global,
     connection: &mut Connection<S>,
-    last: u64,
 ) -> Result<Items<KeptId>, KeepFault> {
     let rows = connection.query_all("SELECT id, number, rows FROM ids ORDER BY number", &[])?;
     let mut ids = Items::new(alloc);
     for row in rows.as_slice() {
-        ids.push(id_of(row, last)?)?;
+        ids.push(id_of(row)?)?;
     }
     Ok(ids)
 }
 
-fn id_of(row: &Row, last: u64) -> Result<KeptId, KeepFault> {
+fn id_of(row: &Row) -> Result<KeptId, KeepFault> {
     let id: String = row.get(0)?;
     if !is_id(id.as_bytes()) {
         return Err(KeepFault::Failed);
     }
     Ok(KeptId {
         id: Text::from_string(id),
-        number: saved_number(row, 1, last)?,
+        number: row.get(1)?,
         rows: row.get(2)?,
     })
-}
-
-// The number of a save, which no save after the last has.
-fn saved_number(row: &Row, column: usize, last: u64) -> Result<u64, KeepFault> {
-    let number: u64 = row.get(column)?;
-    if number > last {
-        return Err(KeepFault::Failed);
-    }
-    Ok(number)
 }
