@@ -43,14 +43,17 @@ refused (query.Q7 measure) = fault.Q7 measure
 refused (query.Q8 limit) = fault.Q8 limit
 refused query.NoMemory = fault.NoMemory
 
--- the lines, or the least key with two values (Q9)
-abbrev pub told_by : Explore → Bound → Answer → Result Told AskFault
-told_by x b (answer.Table rows complete) = Ok (record { bound = b; rows = rows; complete = complete })
-told_by x b (answer.Duplicate measure key) = Err (fault.Q9 (measure_at x measure).name key)
+-- the lines, which come of so many visible rows, or the least key with two values (Q9)
+abbrev pub told_by : Explore → Bound → ℕ → Answer → Result Told AskFault
+told_by x b visited (answer.Table rows complete) =
+    Ok (record { bound = b; rows = rows; complete = complete; visited = visited })
+told_by x b visited (answer.Duplicate measure key) = Err (fault.Q9 (measure_at x measure).name key)
 
 -- the answer, unless more than 1,000,000 rows are visible (Q10)
 abbrev pub told_over : Explore → Sources → Bound → Result Told AskFault
-told_over x s b = if nat_lt 1000000 (length (visible_rows x s b)) then Err fault.Q10 else told_by x b (answer_of x s b)
+told_over x s b =
+    if nat_lt 1000000 (length (visible_rows x s b)) then Err fault.Q10
+    else told_by x b (length (visible_rows x s b)) (answer_of x s b)
 
 -- what a query that binds so is told of a model
 abbrev pub told_of : Model → Sources → Result Bound QueryFault → Result Told AskFault

@@ -10,7 +10,7 @@ ghost use Rattle.lk_ask.specs.Asks.{HasTables, IsAsked, is_no_memory, told_by, t
 use crate::fault::{AskFault, refused};
 use crate::told::Told;
 use lk_exec::ExecFault;
-use lk_gather::{answer, resolved_explores_are_fine};
+use lk_gather::{Counted, answer, resolved_explores_are_fine};
 use lk_plan::{compile, conditions_are_dated, joined_rows_meet_conditions};
 use lk_query::{bind_body, bound_queries_are_in_their_model, resolved_models_have_few_joins};
 use lk_schema::Users;
@@ -73,7 +73,7 @@ fn answer_bound(
     match answer(alloc, x, sources, &plan, Some(MOST_ROWS), now) {
         Err(ExecFault::Many) => Err(AskFault::Q10),
         Err(ExecFault::NoMemory) => Err(AskFault::NoMemory),
-        Ok(answer) => told_by(alloc, x, bound, answer),
+        Ok(counted) => told_by(alloc, x, bound, counted),
     }
 }
 
@@ -86,14 +86,19 @@ fn explore_of(m: &Model, number: u32) -> &Explore
 }
 
 // The lines of an answer, or the key that refuses it.
-fn told_by(alloc: Global, x: &Explore, bound: Bound, answer: Answer) -> Result<Told, AskFault>
-    ensures { IsUnlessMemory is_no_memory result (told_by x.now bound answer) }
+fn told_by(alloc: Global, x: &Explore, bound: Bound, counted: Counted) -> Result<Told, AskFault>
+    ensures { IsUnlessMemory is_no_memory result (told_by x.now bound counted.rows counted.answer) }
 {
+    let Counted {
+        answer,
+        rows: visited,
+    } = counted;
     match answer {
         Answer::Table(rows, complete) => Ok(Told {
             bound,
             rows,
             complete,
+            visited,
         }),
         Answer::Duplicate(measure, key) => Err(AskFault::Q9 {
             measure: measure_name(alloc, x, measure)?,

@@ -1,12 +1,17 @@
 -- Steps of an opening: one kept batch or seed after the other.
 use Rattle.std.proofs.Common.{◌≡◌, ◌<◌, ◌+◌, ◌∷◌, ◌∙◌, [], ℕ, Bool, true, false, List, length, drop, get_or, sym, ap}
-use Rattle.std.specs.Prelude.{Result, Ok, Err}
+use Rattle.std.specs.Prelude.{IfSome, Option, Result, Ok, Err}
 use Rattle.std.proofs.lemmas.List.{drop_more}
 use Rattle.lk_val.specs.Memory.{Unless}
 use Rattle.lk_table.specs.Batches.{and_then}
 use Rattle.lk_table.specs.Contents.{Content}
 use Rattle.lk_edition.specs.declared.fault.OpenFault.{OpenFault}
-use Rattle.lk_edition.specs.Openings.{is_no_memory}
+use Rattle.lk_types.specs.declared.model.Model.{Model}
+use Rattle.lk_schema.specs.declared.users.Users.{Users}
+use Rattle.lk_keep.specs.declared.kept.Kept.{Kept}
+use Rattle.lk_edition.specs.Offices.{Begins, IsOpening}
+use Rattle.lk_edition.specs.Openings.{Seed, is_no_memory, standing_opened}
+use Rattle.lk_edition.specs.States.{Standing}
 
 -- steps over the items of a list, each on what the one before gave, until one fails
 module _ {X : Type 0} (step : List Content → X → Result (List Content) OpenFault) (all : List Content → List X → Result (List Content) OpenFault)
@@ -29,3 +34,15 @@ module _ {X : Type 0} (step : List Content → X → Result (List Content) OpenF
 
     pub step_stops : (why : OpenFault) → Unless (is_no_memory why) (Err why ≡ step tables x) → Unless (is_no_memory why) (Err why ≡ all first xs)
     step_stops why fails = stops_by why (is_no_memory why) fails
+
+-- ---- an office over what a store handed over
+
+module _ (model : Model) (users : Users) (held : Option Kept) (handed : Kept → Type 0) (seeds : List Seed) (kept : Kept)
+    (told : IfSome held (λ holds. kept ≡ holds)) (may : handed kept) where
+  pub opening : (result : Result Standing OpenFault) → standing_opened model users kept seeds ≡ result → IsOpening model users (Begins held handed) seeds result
+  opening result is = record { kept = kept; handed = record { told = told; may = may }; is = is }
+
+  pub not_opening : (lost : Bool) (fault : OpenFault) → Unless lost (standing_opened model users kept seeds ≡ Err fault)
+      → Unless lost (IsOpening model users (Begins held handed) seeds (Err fault))
+  not_opening true fault is = is
+  not_opening false fault is = opening (Err fault) is

@@ -21,10 +21,15 @@ use Rattle.lk_edition.specs.declared.plan.LoadPlan.TheVariants as plan
 abbrev pub AreSeeds : List TableDef → List Seed → Type 0
 AreSeeds defs seeds = All (λ seed. seed.0 < length defs) seeds
 
--- the edition comes of what a store handed over, and where the store tells what it holds, of that
-pub record IsOpening (model : Model) (users : Users) (held : Option Kept) (seeds : List Seed) (result : Result Standing OpenFault) : Type 0 where
-  pub kept : Kept
+-- what a store hands over is what it holds, where it tells that, and else what it may hand over
+pub record Begins (held : Option Kept) (handed : Kept → Type 0) (kept : Kept) : Type 0 where
   pub told : IfSome held (λ holds. kept ≡ holds)
+  pub may : handed kept
+
+-- the edition comes of what a store handed over
+pub record IsOpening (model : Model) (users : Users) (begins : Kept → Type 0) (seeds : List Seed) (result : Result Standing OpenFault) : Type 0 where
+  pub kept : Kept
+  pub handed : begins kept
   pub is : standing_opened model users kept seeds ≡ result
 
 -- the plan is that of some load on the edition

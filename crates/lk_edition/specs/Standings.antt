@@ -5,14 +5,18 @@ use Rattle.lk_semantics.specs.Resolved.{IsResolved}
 use Rattle.lk_edition.specs.Limits.{is_over}
 use Rattle.lk_edition.specs.States.{AreTables, Standing}
 
--- a model that is served: it is a resolved one, all its tables are stored, and it has no datagroups, so that nothing is built
-pub record IsServed (m : Model) : Type 0 where
+-- queries are answered over a resolved model all of whose tables are stored
+pub record IsAnswerable (m : Model) : Type 0 where
   pub stored : m.derived ≡ []
-  pub plain : m.datagroups ≡ []
   pub resolved : IsResolved m
+
+-- all requests are served over such a model that has no datagroups, so that a check builds nothing
+pub record IsServed (m : Model) : Type 0 where
+  pub answerable : IsAnswerable m
+  pub plain : m.datagroups ≡ []
 
 -- what always holds of an edition
 pub record IsStanding (e : Standing) : Type 0 where
-  pub served : IsServed e.model
+  pub answerable : IsAnswerable e.model
   pub tables : AreTables e.model.schema.tables e.state.tables
   pub small : is_over e.state ≡ false

@@ -3,7 +3,7 @@ ghost use Rattle.std.specs.Arc.{arc_value};
 ghost use Rattle.lk_edition.specs.Editions.{standing_of};
 ghost use Rattle.lk_edition.specs.Limits.{is_over};
 ghost use Rattle.lk_edition.specs.Loads.{kept_load};
-ghost use Rattle.lk_edition.specs.Standings.{IsServed, IsStanding};
+ghost use Rattle.lk_edition.specs.Standings.{IsAnswerable, IsStanding};
 ghost use Rattle.lk_edition.specs.States.{AreTables, sources_at};
 
 use crate::tables::share_tables;
@@ -66,7 +66,7 @@ impl Edition {
         tables: Items<TableVersion>,
         loads: Items<Arc<KeptId>>,
     ) -> Result<Edition, NoMemory>
-        requires served { IsServed (arc_value base).model }
+        requires answerable { IsAnswerable (arc_value base).model }
         requires tables { AreTables (arc_value base).model.schema.tables tables }
         requires small { is_over (record { number = number; tables = tables; ids = map arc_value loads }) ≡ false }
         ensures { IfOk result (λ edition. edition ≡ standing_of (arc_value base) number tables (map arc_value loads)) }
@@ -81,8 +81,8 @@ impl Edition {
         })
     }
 
-    /// What always holds of an edition: its model is served, and its tables are those of the schema, within the limits. A law: it
-    /// computes nothing.
+    /// What always holds of an edition: queries are answered over its model, and its tables are those of the schema, within the
+    /// limits. A law: it computes nothing.
     pub fn stands(&self)
         ensures { IsStanding self.now }
     {

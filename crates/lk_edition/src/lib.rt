@@ -2,6 +2,7 @@
 #![tactic(auto)]
 
 mod call;
+mod calls;
 mod checking;
 mod edition;
 mod fault;

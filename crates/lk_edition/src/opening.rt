@@ -3,7 +3,7 @@ ghost use Rattle.std.specs.Arc.{arc_value};
 ghost use Rattle.lk_val.specs.Memory.{IsUnlessMemory};
 ghost use Rattle.lk_edition.specs.Limits.{is_over};
 ghost use Rattle.lk_edition.specs.Offices.{AreSeeds};
-ghost use Rattle.lk_edition.specs.Standings.{IsServed};
+ghost use Rattle.lk_edition.specs.Standings.{IsAnswerable};
 ghost use Rattle.lk_edition.specs.Openings.{all_appended, all_seeded, appended, appended_to, empty_tables, is_no_memory, seeded, standing_opened, standing_over, state_over};
 ghost use Rattle.lk_edition.specs.States.{AreTables};
 ghost use Rattle.lk_edition.specs.declared.fault.OpenFault.TheVariants as fault;
@@ -21,32 +21,37 @@ use lk_val::{Bytes, Items, NoMemory, Text};
 use std::alloc::Global;
 use std::sync::Arc;
 
-/// The edition that a server opens with, by what its store kept and by seeds.
-pub(crate) fn open_edition(
-    alloc: Global,
-    model: Model,
-    users: Users,
-    kept: Kept,
-    seeds: &[(u32, Bytes)],
-) -> Result<Edition, OpenFault>
-    requires model { IsServed model }
-    requires seeds { AreSeeds model.schema.tables seeds.now }
-    ensures value { IsUnlessMemory is_no_memory result (standing_opened model users kept seeds.now) }
-    ensures never { IfErr result (λ why. why ≡ fault.Store → ⊥) }
-{
-    let Kept {
-        number,
-        chunks,
-        ids,
-    } = kept;
-    let defs = model.schema.tables.as_slice();
-    let tables = all_appended(alloc, defs, empty_tables(alloc, defs)?, chunks.as_slice())?;
-    let tables = all_seeded(alloc, defs, tables, seeds)?;
-    if is_over(number, tables.as_slice(), ids.len()) {
-        return Err(OpenFault::Full);
+impl Edition {
+    /// The edition over what a store kept: its batches in their order, and then each seed, a batch in place of the rows of the
+    /// table of a number. It has the number of the last save. The faults are those of the definition; none is the store's.
+    /// (lookd)
+    pub fn open(
+        alloc: Global,
+        model: Model,
+        users: Users,
+        kept: Kept,
+        seeds: &[(u32, Bytes)],
+    ) -> Result<Edition, OpenFault>
+        requires model { IsAnswerable model }
+        requires seeds { AreSeeds model.schema.tables seeds.now }
+        ensures value { IsUnlessMemory is_no_memory result (standing_opened model users kept seeds.now) }
+        ensures number { IfOk result (λ edition. edition.state.number ≡ kept.number) }
+        ensures never { IfErr result (λ why. why ≡ fault.Store → ⊥) }
+    {
+        let Kept {
+            number,
+            chunks,
+            ids,
+        } = kept;
+        let defs = model.schema.tables.as_slice();
+        let tables = all_appended(alloc, defs, empty_tables(alloc, defs)?, chunks.as_slice())?;
+        let tables = all_seeded(alloc, defs, tables, seeds)?;
+        if is_over(number, tables.as_slice(), ids.len()) {
+            return Err(OpenFault::Full);
+        }
+        let loads = each_shared(alloc, ids)?;
+        Ok(edition_over(alloc, model, users, number, tables, loads)?)
     }
-    let loads = each_shared(alloc, ids)?;
-    Ok(edition_over(alloc, model, users, number, tables, loads)?)
 }
 
 fn edition_over(
@@ -57,7 +62,7 @@ fn edition_over(
     tables: Items<TableVersion>,
     loads: Items<Arc<KeptId>>,
 ) -> Result<Edition, NoMemory>
-    requires served { IsServed model }
+    requires answerable { IsAnswerable model }
     requires tables { AreTables model.schema.tables tables }
     requires small { is_over (record { number = number; tables = tables; ids = map arc_value loads }) ≡ false }
     ensures { IfOk result (λ edition. edition ≡ record {

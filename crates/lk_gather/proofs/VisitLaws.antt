@@ -46,11 +46,6 @@ moved at now x y plan other s most acc now_is x_is plan_is h =
     (subst (λ p. HasVisited (placed_explore at y) p most (rows_seen y s p) acc) plan_is
     (subst (λ z. HasVisited (placed_explore at z) plan most (rows_seen z s plan) acc) x_is h))
 
--- what holds anyway holds where a result is no error
-pub always : {A E : Type 0} (fact : Type 0) (result : Result A E) → fact → IfOk result (λ value. fact)
-always fact (Ok value) h = h
-always fact (Err e) h = tt
-
 -- a visit that the cap ended
 pub over : {V : Type 0} (has_seen : V → List Joined → Type 0) (most : Option ℕ) (rows : List Joined) (before after : V) (fault : ExecFault)
     → fault ≡ Many → IsVisit has_seen most [] rows before after (Err fault) → IsOver most rows

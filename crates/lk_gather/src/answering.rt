@@ -5,6 +5,7 @@ ghost use Rattle.lk_types.specs.declared.rows.Joined.{Joined};
 ghost use Rattle.lk_semantics.specs.Answers.{answer_of, answer_over, answer_unless, dims_of, measure_at, ops_of, query_components};
 ghost use Rattle.lk_semantics.specs.DatedRows.{are_joins_dated, are_sources_dated};
 ghost use Rattle.lk_semantics.specs.Rows.{visible_rows};
+ghost use Rattle.lk_exec.specs.Places.{place_after};
 ghost use Rattle.lk_exec.specs.Visits.{IsOver, IsWithin};
 ghost use Rattle.lk_agg.specs.Finishing.{IsFaultOf};
 ghost use Rattle.lk_filter.specs.PlacedModel.{placed_explore};
@@ -23,6 +24,13 @@ use lk_types::{Answer, Explore, Op, Pick, Plan};
 use lk_val::{Items, NoMemory};
 use std::alloc::Global;
 
+/// An answer, and how many visible rows it went over.
+#[derive(Debug, Drop)]
+pub struct Counted {
+    pub answer: Answer,
+    pub rows: u64,
+}
+
 /// The answer to a query at a moment over tables, or `Many` (X1) where a cap is given and more rows are visible. It goes
 /// once over the visible rows and keeps none of them: the groups with what each keeps for its measures, and then their
 /// lines. `now` counts seconds from 1970-01-01 00:00:00 UTC: the relative dates in the filters of the query's measures
@@ -34,15 +42,17 @@ pub fn answer(
     plan: &Plan,
     cap: Option<u64>,
     now: i64,
-) -> Result<Answer, ExecFault>
+) -> Result<Counted, ExecFault>
     requires parts { length explore.now.parts ≡ length explore.now.joins + 1 }
     requires explore { is_fine_explore explore.now ≡ true }
     requires conditions { are_joins_dated explore.now ≡ true }
     requires tables { are_sources_dated sources.now ≡ true }
     requires plan { IsPlan explore.now sources.now plan.now }
-    ensures answer { IfOk result (λ answer. answer
+    ensures answer { IfOk result (λ counted. counted.answer
         ≡ answer_of (placed_explore now explore.now) sources.now plan.now.bound) }
-    ensures within { IfOk result (λ answer. IsWithin cap
+    ensures rows { IfOk result (λ counted. counted.rows
+        ≡ place_after (visible_rows (placed_explore now explore.now) sources.now plan.now.bound)) }
+    ensures within { IfOk result (λ counted. IsWithin cap
         (visible_rows (placed_explore now explore.now) sources.now plan.now.bound)) }
     ensures many { IfErr result (λ fault. fault ≡ Many → IsOver cap
         (visible_rows (placed_explore now explore.now) sources.now plan.now.bound)) }
@@ -55,7 +65,10 @@ pub fn answer(
     let asked = Asked::new(alloc, explore, plan, components.as_slice(), now)?;
     match gather_rows(alloc, sources, cap, &asked, Acc::new(alloc, shape)?) {
         Err(fault) => Err(fault),
-        Ok(acc) => finish(alloc, explore, plan, components.as_slice(), acc),
+        Ok((acc, rows)) => Ok(Counted {
+            answer: finish(alloc, explore, plan, components.as_slice(), acc)?,
+            rows,
+        }),
     }
 }
 

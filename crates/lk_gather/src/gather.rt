@@ -1,6 +1,7 @@
 ghost use Rattle.std.specs.Prelude.{◌≡◌, ◌+◌, [], IfErr, IfOk, length, true};
 ghost use Rattle.lk_types.specs.Dates.{are_literals_dated};
 ghost use Rattle.lk_semantics.specs.DatedRows.{are_joins_dated, are_sources_dated};
+ghost use Rattle.lk_exec.specs.Places.{place_after};
 ghost use Rattle.lk_exec.specs.Visits.{IsOver};
 ghost use Rattle.lk_exec.specs.declared.visit.ExecFault.TheVariants.{Many};
 ghost use Rattle.lk_filter.specs.PlacedModel.{placed_explore};
@@ -47,21 +48,23 @@ impl<'q, 'a> VisitLent for Gather<'q, 'a> {
     }
 }
 
-/// Gives the passing ones of the visible rows to an accumulator that was given none before.
+/// Gives the passing ones of the visible rows to an accumulator that was given none before, and counts the visible ones.
 pub(crate) fn gather_rows(
     alloc: Global,
     sources: &TableSet,
     cap: Option<u64>,
     asked: &Asked<'_>,
     acc: Acc,
-) -> Result<Acc, ExecFault>
+) -> Result<(Acc, u64), ExecFault>
     requires first { HasGathered (placed_explore asked.now.moment asked.now.explore.now) asked.now.plan.now acc 0 [] }
     requires parts { length asked.now.explore.now.parts ≡ length asked.now.explore.now.joins + 1 }
     requires tables { are_sources_dated sources.now ≡ true }
     requires conditions { are_joins_dated asked.now.explore.now ≡ true }
     requires literals { are_literals_dated asked.now.plan.now.visible ≡ true }
-    ensures visited { IfOk result (HasVisited (placed_explore asked.now.moment asked.now.explore.now) asked.now.plan.now cap
-        (rows_seen asked.now.explore.now sources.now asked.now.plan.now)) }
+    ensures visited { IfOk result (λ gathered. HasVisited (placed_explore asked.now.moment asked.now.explore.now)
+        asked.now.plan.now cap (rows_seen asked.now.explore.now sources.now asked.now.plan.now) gathered.0) }
+    ensures count { IfOk result (λ gathered. gathered.1
+        ≡ place_after (rows_seen asked.now.explore.now sources.now asked.now.plan.now)) }
     ensures many { IfErr result (λ fault. fault ≡ Many
         → IsOver cap (rows_seen asked.now.explore.now sources.now asked.now.plan.now)) }
 {
@@ -81,9 +84,9 @@ pub(crate) fn gather_rows(
         &mut gather,
     ) {
         Err(fault) => Err(fault),
-        Ok(_) => {
+        Ok(rows) => {
             let Gather { acc, .. } = gather;
-            Ok(acc)
+            Ok((acc, rows))
         }
     }
 }

@@ -10,5 +10,5 @@ mod laws;
 mod measures;
 mod moment;
 
-pub use answering::answer;
+pub use answering::{Counted, answer};
 pub use laws::resolved_explores_are_fine;

@@ -1,24 +1,36 @@
 -- There is one reply to words.
-use Rattle.std.proofs.Common.{◌≡◌, ◌∙◌, inl, inr, ℕ, ℤ, List, sym, subst}
-use Rattle.std.specs.Prelude.{Option, Some, None, Result, Ok, Err}
+use Rattle.std.proofs.Common.{◌≡◌, ◌∙◌, inl, inr, ℕ, ℤ, List, sym, ap, subst}
+use Rattle.std.specs.Prelude.{Option, Some, None, Result, Ok, Err, true}
+use Rattle.lk_val.specs.declared.fault.FaultLine.{FaultLine}
 use Rattle.lk_io.specs.declared.files.File.{File}
+use Rattle.lk_types.specs.declared.answer.Reply as sent
 use Rattle.lk_types.specs.declared.model.Model.{Model}
 use Rattle.lk_types.specs.declared.rows.Sources.{Sources}
-use Rattle.lk_types.specs.declared.rows.Tables.{Tables}
-use Rattle.lk_semantics.specs.Derived.{sources_of}
 use Rattle.lk_include.specs.declared.project.ProjectFault.{ProjectFault}
 use Rattle.lk_include.specs.declared.project.ProjectFault.TheVariants as project
 use Rattle.lk_schema.specs.declared.users.Users.{Users}
+use Rattle.lk_keep.specs.declared.kept.Kept.{Kept}
 use Rattle.lk_resolve.specs.Loading.{IsLoadOf}
 use Rattle.lk_resolve.specs.declared.loading.Loaded.{Loaded}
-use Rattle.lk_seed.specs.Opening.{tables_of}
+use Rattle.lk_seed.specs.Seeds as seeds
+use Rattle.lk_seed.specs.Seeds.{seeds_of}
 use Rattle.lk_ask.specs.Asks.{IsAsked}
 use Rattle.lk_ask.specs.declared.fault.AskFault.{AskFault}
 use Rattle.lk_ask.specs.declared.told.Told.{Told}
+use Rattle.lk_edition.specs.Offices.{IsOpening}
+use Rattle.lk_edition.specs.Openings.{Seed, standing_opened}
+use Rattle.lk_edition.specs.States.{Standing, sources_at}
+use Rattle.lk_edition.specs.declared.fault.OpenFault.{OpenFault}
+use Rattle.lk_session.specs.Asking as asking
+use Rattle.lk_session.specs.Asking.{replied}
 use Rattle.lk_serve.specs.Checks.{IsChecked, IsToldBy}
+use Rattle.lk_serve.specs.Keeping.{IsEmpty}
+use Rattle.lk_serve.specs.Opened.{IsOpened, Opens, OpenedAs, OverFiles, OverLoaded, OverSeeds, numbered, open_line}
 use Rattle.lk_serve.specs.Outcomes.{IsReply, IsReplyTo}
-use Rattle.lk_serve.specs.Queries.{IsAnswered, IsQueried, OverBody, OverLoad, OverModel, OverTables, TellsAnswer, small_input}
+use Rattle.lk_serve.specs.Queries.{IsAnswered, IsQueried, OverBody, OverEdition, OverOpened, TellsAnswer, small_input}
 use Rattle.lk_serve.specs.Words.{Asked, asked_by, unknown, check, query, script}
+use Rattle.lk_serve.specs.declared.opening.Service.{Service}
+use Rattle.lk_serve.specs.declared.opening.Service.TheVariants.{Queries}
 use Rattle.lk_serve.specs.declared.replies.Reply.{Reply}
 use Rattle.lk_one_reply.specs.Told.{IsTold}
 
@@ -52,63 +64,94 @@ module _ (one_load : OneLoad) (one_told : OneTold) where
       one_load files h.loaded k.loaded (checked_told h.loaded a h.told) (checked_told k.loaded b k.told) h.is_load k.is_load in
       one_telling k.loaded a b (subst (λ r. IsToldBy r a) same h.told) k.told
 
+  -- ---- what opens
+
+  -- a line that a fault has
+  one_line : (line : Option FaultLine) (a b : Reply) → Opens line a → Opens line b → a ≡ b
+  one_line None a b h k = absurd h
+  one_line (Some line) a b h k = h ∙ sym k
+
+  one_opened : (opened : Result Standing OpenFault) (r s : Result Standing Reply) → OpenedAs opened r → OpenedAs opened s → r ≡ s
+  one_opened (Ok e) r s h k = h ∙ sym k
+  one_opened (Err fault) (Ok e) s h k = absurd h
+  one_opened (Err fault) (Err a) (Ok e) h k = absurd k
+  one_opened (Err fault) (Err a) (Err b) h k = ap Err (one_line (open_line fault) a b h k)
+
+  module _ (begins : Kept → Type 0) (one_kept : (a b : Kept) → begins a → begins b → a ≡ b) where
+    over_seeds : (loaded : Loaded) (found : List seeds.Seed) (r s : Result Standing Reply)
+        → OverSeeds loaded begins found r → OverSeeds loaded begins found s → r ≡ s
+    over_seeds loaded found r s h k =
+        let same : h.opened ≡ k.opened =
+        sym h.is_opening.is ∙ ap (λ (held : Kept). standing_opened loaded.model loaded.users held (numbered 0 found))
+        (one_kept h.is_opening.kept k.is_opening.kept h.is_opening.handed k.is_opening.handed) ∙ k.is_opening.is in
+        one_opened k.opened r s (subst (λ opened. OpenedAs opened r) same h.told) k.told
+
+    over_files : (loaded : Loaded) (found : Result (List seeds.Seed) ProjectFault) (r s : Result Standing Reply)
+        → OverFiles loaded begins found r → OverFiles loaded begins found s → r ≡ s
+    over_files loaded (Ok found) r s h k = over_seeds loaded found r s h k
+    over_files loaded (Err (project.Model line)) r s h k = h ∙ sym k
+    over_files loaded (Err project.Failed) r s h k = absurd h
+    over_files loaded (Err project.NoMemory) r s h k = absurd h
+
+    over_loaded : (service : Service) (files : List File) (l : Result Loaded ProjectFault) (r s : Result Standing Reply)
+        → OverLoaded service files begins l r → OverLoaded service files begins l s → r ≡ s
+    over_loaded service files (Ok loaded) r s (inl h) (inl k) = over_files loaded (seeds_of loaded.model.schema.tables files) r s h.1 k.1
+    over_loaded service files (Ok loaded) r s (inl h) (inr k) = absurd (k.0 h.0)
+    over_loaded service files (Ok loaded) r s (inr h) (inl k) = absurd (h.0 k.0)
+    over_loaded service files (Ok loaded) r s (inr h) (inr k) = h.1 ∙ sym k.1
+    over_loaded service files (Err (project.Model line)) r s h k = h ∙ sym k
+    over_loaded service files (Err project.Failed) r s h k = absurd h
+    over_loaded service files (Err project.NoMemory) r s h k = absurd h
+
+    loaded_told : (service : Service) (files : List File) (l : Result Loaded ProjectFault) (r : Result Standing Reply)
+        → OverLoaded service files begins l r → IsTold l
+    loaded_told service files (Ok loaded) r h = tt
+    loaded_told service files (Err (project.Model line)) r h = tt
+    loaded_told service files (Err project.Failed) r h = h
+    loaded_told service files (Err project.NoMemory) r h = h
+
+    pub one_opening : (service : Service) (files : List File) (r s : Result Standing Reply)
+        → IsOpened service files begins r → IsOpened service files begins s → r ≡ s
+    one_opening service files r s h k =
+        let same : h.loaded ≡ k.loaded =
+        one_load files h.loaded k.loaded (loaded_told service files h.loaded r h.over) (loaded_told service files k.loaded s k.over) h.is_load k.is_load in
+        over_loaded service files k.loaded r s (subst (λ l. OverLoaded service files begins l r) same h.over) k.over
+
   -- ---- queries
 
-  one_answer : (m : Model) (r : Result Told AskFault) (a b : Reply) → TellsAnswer m r a → TellsAnswer m r b → a ≡ b
-  one_answer m (Ok told) a b h k = h ∙ sym k
-  one_answer m (Err fault) a b h k = h.1 ∙ sym k.1
+  one_answer : (told : Result sent.Reply AskFault) (a b : Reply) → TellsAnswer told a → TellsAnswer told b → a ≡ b
+  one_answer (Ok answer) a b h k = h ∙ sym k
+  one_answer (Err fault) a b h k = h.1 ∙ sym k.1
 
-  one_answered : (loaded : Loaded) (s : Sources) (user explore : List ℕ) (now : ℤ) (body : List ℕ) (a b : Reply)
-      → IsAnswered loaded s user explore now body a → IsAnswered loaded s user explore now body b → a ≡ b
-  one_answered loaded s user explore now body a b h k =
-      let same : h.told ≡ k.told = one_told loaded.model loaded.users s user explore body now h.told k.told h.is_asked k.is_asked in
-      one_answer loaded.model k.told a b (subst (λ r. TellsAnswer loaded.model r a) same h.tells) k.tells
+  one_asked : (e : Standing) (user explore body : List ℕ) (now : ℤ) (r t : Result sent.Reply AskFault)
+      → asking.IsAnswered e user explore body now true r → asking.IsAnswered e user explore body now true t → r ≡ t
+  one_asked e user explore body now r t h k =
+      h.is ∙ ap (replied e true) (one_told e.model e.users (sources_at e.state) user explore body now h.told k.told h.is_asked k.is_asked) ∙ sym k.is
 
-  over_body : (loaded : Loaded) (tables : Tables) (user explore : List ℕ) (now : ℤ) (body : Option (List ℕ)) (a b : Reply)
-      → OverBody loaded tables user explore (Some now) body a → OverBody loaded tables user explore (Some now) body b → a ≡ b
-  over_body loaded tables user explore now None a b h k = h ∙ sym k
-  over_body loaded tables user explore now (Some body) a b h k =
-      let sources = sources_of loaded.model tables in
-      one_answered loaded sources user explore now body a b
-      (subst (λ moment. IsAnswered loaded sources user explore moment body a) h.told h.answered)
-      (subst (λ moment. IsAnswered loaded sources user explore moment body b) k.told k.answered)
+  one_answered : (e : Standing) (user explore : List ℕ) (now : ℤ) (body : List ℕ) (a b : Reply)
+      → IsAnswered e user explore now body a → IsAnswered e user explore now body b → a ≡ b
+  one_answered e user explore now body a b h k =
+      let same : h.told ≡ k.told = one_asked e user explore body now h.told k.told h.is k.is in
+      one_answer k.told a b (subst (λ r. TellsAnswer r a) same h.tells) k.tells
 
-  over_tables : (loaded : Loaded) (user explore input : List ℕ) (now : ℤ) (t : Result Tables ProjectFault) (a b : Reply)
-      → OverTables loaded user explore (Some input) (Some now) t a → OverTables loaded user explore (Some input) (Some now) t b → a ≡ b
-  over_tables loaded user explore input now (Ok tables) a b h k = over_body loaded tables user explore now (small_input input) a b h.1 k.1
-  over_tables loaded user explore input now (Err (project.Model line)) a b h k = h ∙ sym k
-  over_tables loaded user explore input now (Err project.Failed) a b h k = absurd h
-  over_tables loaded user explore input now (Err project.NoMemory) a b h k = absurd h
+  over_body : (e : Standing) (user explore : List ℕ) (now : ℤ) (body : Option (List ℕ)) (a b : Reply)
+      → OverBody e user explore (Some now) body a → OverBody e user explore (Some now) body b → a ≡ b
+  over_body e user explore now None a b h k = h ∙ sym k
+  over_body e user explore now (Some body) a b h k =
+      one_answered e user explore now body a b
+      (subst (λ moment. IsAnswered e user explore moment body a) h.told h.answered)
+      (subst (λ moment. IsAnswered e user explore moment body b) k.told k.answered)
 
-  over_model : (files : List File) (loaded : Loaded) (user explore input : List ℕ) (now : ℤ) (a b : Reply)
-      → OverModel files loaded user explore (Some input) (Some now) a → OverModel files loaded user explore (Some input) (Some now) b → a ≡ b
-  over_model files loaded user explore input now a b (inl h) (inl k) =
-      over_tables loaded user explore input now (tables_of loaded.model.schema files) a b h.1 k.1
-  over_model files loaded user explore input now a b (inl h) (inr k) = absurd (k.0 h.0)
-  over_model files loaded user explore input now a b (inr h) (inl k) = absurd (h.0 k.0)
-  over_model files loaded user explore input now a b (inr h) (inr k) = h.1 ∙ sym k.1
-
-  loaded_told : (files : List File) (user explore : List ℕ) (input : Option (List ℕ)) (now : Option ℤ) (r : Result Loaded ProjectFault) (a : Reply)
-      → OverLoad files user explore input now r a → IsTold r
-  loaded_told files user explore input now (Ok loaded) a h = tt
-  loaded_told files user explore input now (Err (project.Model line)) a h = tt
-  loaded_told files user explore input now (Err project.Failed) a h = h
-  loaded_told files user explore input now (Err project.NoMemory) a h = h
-
-  over_load : (files : List File) (user explore input : List ℕ) (now : ℤ) (r : Result Loaded ProjectFault) (a b : Reply)
-      → OverLoad files user explore (Some input) (Some now) r a → OverLoad files user explore (Some input) (Some now) r b → a ≡ b
-  over_load files user explore input now (Ok loaded) a b h k = over_model files loaded user explore input now a b h k
-  over_load files user explore input now (Err (project.Model line)) a b h k = h ∙ sym k
-  over_load files user explore input now (Err project.Failed) a b h k = absurd h
-  over_load files user explore input now (Err project.NoMemory) a b h k = absurd h
+  over_opened : (user explore input : List ℕ) (now : ℤ) (opened : Result Standing Reply) (a b : Reply)
+      → OverOpened user explore (Some input) (Some now) opened a → OverOpened user explore (Some input) (Some now) opened b → a ≡ b
+  over_opened user explore input now (Ok e) a b h k = over_body e user explore now (small_input input) a b h.is k.is
+  over_opened user explore input now (Err line) a b h k = h ∙ sym k
 
   one_queried : (files : List File) (user explore input : List ℕ) (now : ℤ) (a b : Reply)
       → IsQueried files user explore (Some input) (Some now) a → IsQueried files user explore (Some input) (Some now) b → a ≡ b
   one_queried files user explore input now a b h k =
-      let same : h.loaded ≡ k.loaded =
-      one_load files h.loaded k.loaded (loaded_told files user explore (Some input) (Some now) h.loaded a h.told)
-      (loaded_told files user explore (Some input) (Some now) k.loaded b k.told) h.is_load k.is_load in
-      over_load files user explore input now k.loaded a b (subst (λ r. OverLoad files user explore (Some input) (Some now) r a) same h.told) k.told
+      let same : h.opened ≡ k.opened = one_opening IsEmpty (λ a b h k. h ∙ sym k) Queries files h.opened k.opened h.is_opened k.is_opened in
+      over_opened user explore input now k.opened a b (subst (λ r. OverOpened user explore (Some input) (Some now) r a) same h.told) k.told
 
   -- ---- words
 

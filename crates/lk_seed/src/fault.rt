@@ -1,7 +1,7 @@
 ghost use Rattle.std.specs.Prelude.{◌≡◌, IfOk};
 ghost use Rattle.lk_include.specs.Gathering.{file_line};
 ghost use Rattle.lk_types.specs.Printing.{value_text};
-ghost use Rattle.lk_seed.specs.Opening.{seed_fault};
+ghost use Rattle.lk_seed.specs.Faults.{seed_fault};
 ghost use Rattle.lk_seed.specs.Seeds.{data_path};
 
 use lk_table::BatchFault;

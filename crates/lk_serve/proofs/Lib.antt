@@ -1,4 +1,6 @@
 pub mod ConsoleLaws
 pub mod MomentLaws
+pub mod OpenedLaws
+pub mod QueryLaws
 pub mod RunLaws
 pub mod ScriptLaws

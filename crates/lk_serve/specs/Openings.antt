@@ -1,9 +1,8 @@
 -- The steps of an opening.
-use Rattle.std.specs.Prelude.{◌≡◌, ◌≤◌, ⊤, ℕ, ◌++◌, ◌∷◌, [], List, Option, Some, None, Ok, Err}
+use Rattle.std.specs.Prelude.{◌≡◌, ◌⊎◌, ◌≤◌, ⊤, ℕ, ◌++◌, ◌∷◌, [], List, Option, Some, None, Result, Ok, Err}
 use Rattle.lk_val.specs.declared.fault.ModelFault.{ModelFault}
 use Rattle.lk_io.specs.Causes.{Rose}
 use Rattle.lk_io.specs.declared.files.File.{File}
-use Rattle.lk_keep.specs.declared.kept.Kept.{Kept}
 use Rattle.lk_edition.specs.Openings.{Seed}
 use Rattle.lk_edition.specs.declared.fault.OpenFault.{OpenFault}
 use Rattle.lk_edition.specs.declared.fault.OpenFault.TheVariants as opening
@@ -13,8 +12,9 @@ use Rattle.lk_seed.specs.Seeds.{seeds_of}
 use Rattle.lk_seed.specs.Seeds as seeds
 use Rattle.lk_include.specs.declared.project.ProjectFault.{ProjectFault}
 use Rattle.lk_include.specs.declared.project.ProjectFault.TheVariants as project
-use Rattle.lk_serve.specs.Replies.{fault_reply}
-use Rattle.lk_serve.specs.Scripts.{IsOpened, Opens, OverLoaded, TellsLine, line_of, numbered, open_line}
+use Rattle.lk_serve.specs.Replies.{fault_reply, unanswered_reply}
+use Rattle.lk_serve.specs.Opened.{IsServable, Opens, TellsLine, line_of, numbered, open_line}
+use Rattle.lk_serve.specs.declared.opening.Service.{Service}
 use Rattle.lk_serve.specs.declared.opening.Why.{Why}
 use Rattle.lk_serve.specs.declared.opening.Why.TheVariants as why
 use Rattle.lk_serve.specs.declared.replies.Reply.{Reply}
@@ -32,7 +32,7 @@ abbrev pub with_seed : List Seed → ℕ → seeds.Seed → List Seed
 with_seed given number None = given
 with_seed given number (Some body) = given ++ (number, body) ∷ []
 
--- the line says why no server opens; the store, the files and memory say nothing
+-- the line says why nothing opens; the store, the files and memory say nothing
 abbrev pub IsWhy : (Reply → Type 0) → Why → Type 0
 IsWhy Is (why.Told reply) = Is reply
 IsWhy Is why.Store = ⊤
@@ -46,13 +46,27 @@ IsFaulty why.Store = ⊤
 IsFaulty why.Files = ⊤
 IsFaulty why.Memory = ⊤
 
--- the line is that of the files over each store
-abbrev pub IsLine : List File → Reply → Type 0
-IsLine files reply = (kept : Option Kept) → IsOpened files kept (Err reply)
+-- the files give no batches, with this line
+abbrev pub IsFileLine : Result (List seeds.Seed) ProjectFault → Reply → Type 0
+IsFileLine (Ok found) reply = ⊥
+IsFileLine (Err (project.Model fault)) reply = reply ≡ fault_reply fault
+IsFileLine (Err project.Failed) reply = ⊥
+IsFileLine (Err project.NoMemory) reply = ⊥
 
--- the line is that of a project that loads so, over each store
-abbrev pub IsUnserved : List File → Loaded → Reply → Type 0
-IsUnserved files loaded reply = (kept : Option Kept) → OverLoaded files kept (Ok loaded) (Err reply)
+-- a project that loads so opens nothing over any store, with this line
+abbrev pub IsUnserved : Service → List File → Result Loaded ProjectFault → Reply → Type 0
+IsUnserved service files (Ok loaded) reply =
+    (IsServable service loaded.model × IsFileLine (seeds_of loaded.model.schema.tables files) reply)
+    ⊎ ((IsServable service loaded.model → ⊥) × (reply ≡ unanswered_reply))
+IsUnserved service files (Err (project.Model fault)) reply = reply ≡ fault_reply fault
+IsUnserved service files (Err project.Failed) reply = ⊥
+IsUnserved service files (Err project.NoMemory) reply = ⊥
+
+-- the files open nothing over any store, with this line
+pub record IsLine (service : Service) (files : List File) (reply : Reply) : Type 0 where
+  pub loaded : Result Loaded ProjectFault
+  pub is_load : IsLoadOf files loaded
+  pub over : IsUnserved service files loaded reply
 
 -- ---- faults
 

@@ -2,6 +2,7 @@
 use Rattle.std.specs.Prelude.{ℕ, List, [], ◌∷◌, ◌++◌, codes}
 use Rattle.lk_val.specs.Faults.{fault_text}
 use Rattle.lk_val.specs.declared.fault.FaultLine.{FaultLine}
+use Rattle.lk_types.specs.declared.answer.Reply as sent
 use Rattle.lk_types.specs.declared.model.Model.{Model}
 use Rattle.lk_semantics.specs.Derived.{explore_at}
 use Rattle.lk_ask.specs.declared.fault.AskFault.{AskFault}
@@ -57,6 +58,10 @@ long_reply = record { body = line (codes "{\"error\":\"H3\"}"); status = Refused
 
 abbrev pub refused_reply : AskFault → Reply
 refused_reply fault = record { body = line (refusal_text fault); status = Refused }
+
+-- an answer as it is printed
+abbrev pub printed_answer : sent.Reply → Reply
+printed_answer answer = record { body = answer.body; status = Done }
 
 -- the answer over the tables of the opening, which is snapshot 0
 abbrev pub answer_reply : Model → Told → Reply

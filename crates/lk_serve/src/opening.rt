@@ -1,21 +1,25 @@
-ghost use Rattle.std.specs.Prelude.{◌≡◌, ◌<◌, ◌≤◌, List, Err, IfErr, IfOk, IfSome, Ok, OnOk, length, true, false};
+ghost use Rattle.std.specs.Prelude.{◌≡◌, ◌<◌, ◌≤◌, List, Err, IfErr, IfOk, IfSome, Ok, OnOk, Some, length, true, false};
 ghost use Rattle.std.specs.List.{All};
 ghost use Rattle.std.specs.Option.{option_map};
 ghost use Rattle.lk_io.specs.Causes.{Rose};
 ghost use Rattle.lk_io.specs.Moments.{later};
+ghost use Rattle.lk_types.specs.Dates.{IsMomentInYears};
 ghost use Rattle.lk_types.specs.Printing.{value_text};
 ghost use Rattle.lk_seed.specs.Seeds.{Seed, seeds_of};
-ghost use Rattle.lk_edition.specs.Offices.{AreSeeds, IsOpening, standing_in};
-ghost use Rattle.lk_edition.specs.Standings.{IsServed};
+ghost use Rattle.lk_edition.specs.Offices.{AreSeeds, Begins, IsOpening, standing_in};
+ghost use Rattle.lk_edition.specs.Standings.{IsAnswerable, IsServed};
 ghost use Rattle.lk_edition.specs.declared.fault.OpenFault.{OpenFault};
 ghost use Rattle.lk_session.specs.Steps.{keeper_in};
+ghost use Rattle.lk_serve.specs.Keeping.{IsEmpty};
+ghost use Rattle.lk_serve.specs.Opened.{IsOpened, IsServable, Opens, numbered, open_fault, open_line, unread_fault, unread_line};
 ghost use Rattle.lk_serve.specs.Openings.{HasWhyCause, IsFaulty, IsLine, IsProject, IsUnserved, IsWhy, OpensNot, ProjectNot, TellsFault, with_seed};
-ghost use Rattle.lk_serve.specs.Runs.{IsAskedOnce};
-ghost use Rattle.lk_serve.specs.Scripts.{IsOpened, Opens, numbered, open_fault, open_line, unread_fault, unread_line};
+ghost use Rattle.lk_serve.specs.Runs.{IsAskedOnce, next_moment};
+ghost use Rattle.lk_serve.specs.declared.opening.Service.{Service};
 ghost use Rattle.lk_serve.specs.declared.opening.Why.{Why};
 
+use crate::keeping::empty_kept;
 use crate::replies::{Reply, fault_found, unanswered};
-use lk_edition::{Office, OpenFault, Unopened};
+use lk_edition::{Edition, Office, OpenFault, Unopened};
 use lk_include::ProjectFault;
 use lk_io::{Clock, Files};
 use lk_keep::Keeper;
@@ -27,7 +31,15 @@ use lk_val::{Bytes, Cell, FaultLine, Items, ModelFault, NoMemory, Text, Value};
 use lk_validate::is_resolved;
 use std::alloc::Global;
 
-/// Why a server did not open.
+/// What a project is opened for: queries alone, over any resolved model all of whose tables are stored; or all requests, over
+/// such a model that has no datagroups, so that a check has nothing to build.
+#[derive(Clone, Copy, Debug, PartialEq, Eq)]
+pub enum Service {
+    Queries,
+    Requests,
+}
+
+/// Why a project did not open.
 #[derive(Debug, Drop)]
 pub enum Why {
     /// The line on it.
@@ -51,6 +63,13 @@ impl From<NoMemory> for Why {
     }
 }
 
+/// The edition that a project opened with, and the moment at which it did.
+#[derive(Drop)]
+pub struct Opened {
+    pub edition: Edition,
+    pub now: i64,
+}
+
 /// Why a server did not open, and its store, handed back.
 #[derive(Drop)]
 pub struct Unserved<K> {
@@ -64,10 +83,61 @@ struct Opening {
     seeds: Vec<(u32, Bytes)>,
 }
 
+/// The edition that a folder's project opens over an empty store for queries, or why it opens none: the first fault of the
+/// project, Z1 for a model that is not answered over, a data file that is too big (P1), the first data file that does not read
+/// (L3, L5, L4), or tables over a limit (L6). The clock is asked once, before the tables are read, and not at all where the
+/// project's files open nothing. (lookd)
+#[tactic(auto, using(crate::proofs::MomentLaws::next_is, crate::proofs::OpenedLaws::line_opens))]
+pub fn open_edition<F: Files, C: Clock>(
+    alloc: Global,
+    files: &mut F,
+    clock: &mut C,
+) -> Result<Opened, Why>
+    ensures opened { IfSome (F.told files.old) (λ told. IfOk result (λ opened.
+        IsOpened Service.Queries told IsEmpty (Ok opened.edition))) }
+    ensures unopened { IfSome (F.told files.old) (λ told. IfErr result
+        (IsWhy (λ reply. IsOpened Service.Queries told IsEmpty (Err reply)))) }
+    ensures faulty { IfErr result IsFaulty }
+    ensures number { IfOk result (λ opened. opened.edition.state.number ≡ 0) }
+    ensures years { IfOk result (λ opened. IsMomentInYears opened.now) }
+    ensures next { IfOk result (λ opened. IfSome (next_moment (C.moments clock.old)) (λ told. opened.now ≡ told)) }
+    ensures once { IsAskedOnce (C.moments clock.old) (C.moments clock.new) }
+    ensures later { F.faults files.old ≤ F.faults files.new }
+    ensures cause { IfErr result (λ why. why ≡ Why.Files → Rose (F.faults files.old) (F.faults files.new)) }
+    ensures never { IfErr result (λ why. why ≡ Why.Store → ⊥) }
+    ensures same { F.told files.new ≡ F.told files.old }
+{
+    let opening = read_project(alloc, files, Service::Queries)?;
+    let now = clock.now();
+    let edition = edition_over(alloc, opening)?;
+    Ok(Opened { edition, now })
+}
+
+fn edition_over(alloc: Global, opening: Opening) -> Result<Edition, Why>
+    requires answerable { IsAnswerable opening.loaded.model }
+    requires seeds { AreSeeds opening.loaded.model.schema.tables opening.seeds.items }
+    ensures opened { IfOk result (λ edition. IsOpening opening.loaded.model opening.loaded.users IsEmpty
+        opening.seeds.items (Ok edition)) }
+    ensures unopened { IfErr result (IsWhy (λ reply. (fault : OpenFault) × Opens (open_line fault) reply
+        × IsOpening opening.loaded.model opening.loaded.users IsEmpty opening.seeds.items (Err fault))) }
+    ensures faulty { IfErr result IsFaulty }
+    ensures number { IfOk result (λ edition. edition.state.number ≡ 0) }
+    ensures store { IfErr result (λ why. why ≡ Why.Store → ⊥) }
+    ensures files { IfErr result (λ why. why ≡ Why.Files → ⊥) }
+{
+    let Opening { loaded, seeds } = opening;
+    let Loaded { model, users } = loaded;
+    match Edition::open(alloc, model, users, empty_kept(alloc), seeds.as_slice()) {
+        Ok(edition) => Ok(edition),
+        Err(fault) => Err(why_not(alloc, fault)),
+    }
+}
+
 /// The server that a folder's project opens over a store, or why it does not: the first fault of the project, Z1 for a model
 /// that is not served, a data file that is too big (P1), the first kept batch that does not read (O1), the first data file
 /// that does not read (L3, L5, L4), or tables over a limit (L6). The clock is asked once, before the store is read, and not at
 /// all where the project's files open nothing. It changes neither the files nor what the store holds. (lookd)
+#[tactic(auto, using(crate::proofs::OpenedLaws::line_opens))]
 pub fn open_office<F: Files, K: Keeper, C: Clock>(
     alloc: Global,
     files: &mut F,
@@ -75,9 +145,9 @@ pub fn open_office<F: Files, K: Keeper, C: Clock>(
     clock: &mut C,
 ) -> Result<Office<K>, Unserved<K>>
     ensures opened { IfSome (F.told files.old) (λ told. IfOk result (λ office.
-        IsOpened told (K.held keeper) (Ok (standing_in office)))) }
+        IsOpened Service.Requests told (Begins (K.held keeper) (K.handed keeper)) (Ok (standing_in office)))) }
     ensures unopened { IfSome (F.told files.old) (λ told. IfErr result (λ unserved.
-        IsWhy (λ reply. IsOpened told (K.held keeper) (Err reply)) unserved.why)) }
+        IsWhy (λ reply. IsOpened Service.Requests told (Begins (K.held keeper) (K.handed keeper)) (Err reply)) unserved.why)) }
     ensures faulty { IfErr result (λ unserved. IsFaulty unserved.why) }
     ensures kept_ok { IfOk result (λ office. K.held (keeper_in office) ≡ K.held keeper) }
     ensures kept_err { IfErr result (λ unserved. K.held unserved.keeper ≡ K.held keeper) }
@@ -89,7 +159,7 @@ pub fn open_office<F: Files, K: Keeper, C: Clock>(
     ensures later { F.faults files.old ≤ F.faults files.new }
     ensures same { F.told files.new ≡ F.told files.old }
 {
-    match read_project(alloc, files) {
+    match read_project(alloc, files, Service::Requests) {
         Ok(opening) => {
             // The moment of the opening, at which nothing is built so far.
             let _opened = clock.now();
@@ -106,10 +176,10 @@ fn open_over<K: Keeper>(
 ) -> Result<Office<K>, Unserved<K>>
     requires served { IsServed opening.loaded.model }
     requires seeds { AreSeeds opening.loaded.model.schema.tables opening.seeds.items }
-    ensures opened { IfOk result (λ office. IsOpening opening.loaded.model opening.loaded.users (K.held keeper) opening.seeds.items
+    ensures opened { IfOk result (λ office. IsOpening opening.loaded.model opening.loaded.users (Begins (K.held keeper) (K.handed keeper)) opening.seeds.items
         (Ok (standing_in office))) }
     ensures unopened { IfErr result (λ unserved. IsWhy (λ reply. (fault : OpenFault) × Opens (open_line fault) reply
-        × IsOpening opening.loaded.model opening.loaded.users (K.held keeper) opening.seeds.items (Err fault)) unserved.why) }
+        × IsOpening opening.loaded.model opening.loaded.users (Begins (K.held keeper) (K.handed keeper)) opening.seeds.items (Err fault)) unserved.why) }
     ensures faulty { IfErr result (λ unserved. IsFaulty unserved.why) }
     ensures kept_ok { IfOk result (λ office. K.held (keeper_in office) ≡ K.held keeper) }
     ensures kept_err { IfErr result (λ unserved. K.held unserved.keeper ≡ K.held keeper) }
@@ -213,12 +283,12 @@ fn printed(alloc: Global, key: Value) -> Result<Text, NoMemory>
     print_cell(alloc, &Cell::Value(key), &Shape::Plain)
 }
 
-// The project of the files, where it is served.
-fn read_project<F: Files>(alloc: Global, files: &mut F) -> Result<Opening, Why>
+// The project of the files, where it is served so.
+fn read_project<F: Files>(alloc: Global, files: &mut F, service: Service) -> Result<Opening, Why>
     ensures project { IfSome (F.told files.old) (λ told. IfOk result (λ opening. IsProject told opening.loaded opening.seeds.items)) }
-    ensures line { IfSome (F.told files.old) (λ told. IfErr result (IsWhy (IsLine told))) }
+    ensures line { IfSome (F.told files.old) (λ told. IfErr result (IsWhy (IsLine service told))) }
     ensures faulty { IfErr result IsFaulty }
-    ensures served { IfOk result (λ opening. IsServed opening.loaded.model) }
+    ensures served { IfOk result (λ opening. IsServable service opening.loaded.model) }
     ensures seeds { IfOk result (λ opening. AreSeeds opening.loaded.model.schema.tables opening.seeds.items) }
     ensures later { F.faults files.old ≤ F.faults files.new }
     ensures cause { IfErr result (λ why. why ≡ Why.Files → Rose (F.faults files.old) (F.faults files.new)) }
@@ -226,7 +296,7 @@ fn read_project<F: Files>(alloc: Global, files: &mut F) -> Result<Opening, Why>
     ensures same { F.told files.new ≡ F.told files.old }
 {
     match load(alloc, files) {
-        Ok(loaded) => read_batches(alloc, files, loaded),
+        Ok(loaded) => read_batches(alloc, files, loaded, service),
         Err(fault) => Err(project_not(alloc, fault)),
     }
 }
@@ -246,21 +316,26 @@ fn project_not(alloc: Global, fault: ProjectFault) -> Why
     }
 }
 
-// The batches of a project's data files, where it is served.
-fn read_batches<F: Files>(alloc: Global, files: &mut F, loaded: Loaded) -> Result<Opening, Why>
+// The batches of a project's data files, where it is served so.
+fn read_batches<F: Files>(
+    alloc: Global,
+    files: &mut F,
+    loaded: Loaded,
+    service: Service,
+) -> Result<Opening, Why>
     ensures loaded { IfOk result (λ opening. opening.loaded ≡ loaded) }
     ensures batches { IfSome (F.told files.old) (λ told. IfOk result (λ opening. (found : List Seed)
         × (Ok found ≡ seeds_of loaded.model.schema.tables told) × (opening.seeds.items ≡ numbered 0 found))) }
-    ensures line { IfSome (F.told files.old) (λ told. IfErr result (IsWhy (IsUnserved told loaded))) }
+    ensures line { IfSome (F.told files.old) (λ told. IfErr result (IsWhy (IsUnserved service told (Ok loaded)))) }
     ensures faulty { IfErr result IsFaulty }
-    ensures served { IfOk result (λ opening. IsServed loaded.model) }
+    ensures served { IfOk result (λ opening. IsServable service loaded.model) }
     ensures seeds { IfOk result (λ opening. AreSeeds loaded.model.schema.tables opening.seeds.items) }
     ensures later { F.faults files.old ≤ F.faults files.new }
     ensures cause { IfErr result (λ why. why ≡ Why.Files → Rose (F.faults files.old) (F.faults files.new)) }
     ensures never { IfErr result (λ why. why ≡ Why.Store → ⊥) }
     ensures same { F.told files.new ≡ F.told files.old }
 {
-    if !is_served(alloc, &loaded.model)? {
+    if !is_servable(alloc, &loaded.model, service)? {
         return Err(Why::Told(unanswered(alloc)?));
     }
     match read_seeds(alloc, files, &loaded.model.schema) {
@@ -272,15 +347,37 @@ fn read_batches<F: Files>(alloc: Global, files: &mut F, loaded: Loaded) -> Resul
     }
 }
 
-// Whether a model is served: it is a resolved one, all its tables are stored, and it has no datagroups.
+// Whether a model is served so.
+fn is_servable(alloc: Global, m: &Model, service: Service) -> Result<bool, NoMemory>
+    ensures yes { IfOk result (λ is. is ≡ true → IsServable service m.now) }
+    ensures no { IfOk result (λ is. is ≡ false → IsServable service m.now → ⊥) }
+{
+    match service {
+        Service::Queries => is_answerable(alloc, m),
+        Service::Requests => is_served(alloc, m),
+    }
+}
+
+// Whether queries are answered over a model: it is a resolved one, and all its tables are stored.
+fn is_answerable(alloc: Global, m: &Model) -> Result<bool, NoMemory>
+    ensures yes { IfOk result (λ is. is ≡ true → IsAnswerable m.now) }
+    ensures no { IfOk result (λ is. is ≡ false → IsAnswerable m.now → ⊥) }
+{
+    if !m.derived.is_empty() {
+        return Ok(false);
+    }
+    is_resolved(alloc, m)
+}
+
+// Whether all requests are served over a model: queries are, and it has no datagroups.
 fn is_served(alloc: Global, m: &Model) -> Result<bool, NoMemory>
     ensures yes { IfOk result (λ is. is ≡ true → IsServed m.now) }
     ensures no { IfOk result (λ is. is ≡ false → IsServed m.now → ⊥) }
 {
-    if !m.derived.is_empty() || !m.datagroups.is_empty() {
+    if !m.datagroups.is_empty() {
         return Ok(false);
     }
-    is_resolved(alloc, m)
+    is_answerable(alloc, m)
 }
 
 // The batches of tables, each with its table's number.

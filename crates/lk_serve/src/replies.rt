@@ -1,15 +1,12 @@
-ghost use Rattle.std.specs.Prelude.{◌≡◌, IfOk, length, nat_lt, true};
+ghost use Rattle.std.specs.Prelude.{◌≡◌, IfOk};
 ghost use Rattle.lk_serve.specs.declared.replies.Status.{Status};
-ghost use Rattle.lk_serve.specs.Replies.{answer_reply, code_of, fault_reply, line, long_reply, ok_reply, refused_reply, unanswered_reply, usage_reply};
+ghost use Rattle.lk_serve.specs.Replies.{code_of, fault_reply, line, long_reply, ok_reply, printed_answer, refused_reply, unanswered_reply, usage_reply};
 
-use lk_ask::{AskFault, Told};
-use lk_reply::{print_answer, print_refusal};
-use lk_types::Model;
+use lk_ask::AskFault;
+use lk_reply::print_refusal;
+use lk_types::Reply as Answer;
 use lk_val::{Bytes, FaultLine, NoMemory};
 use std::alloc::Global;
-
-// The snapshot that a query's answer is of: that of the opening.
-const OPENING: u64 = 0;
 
 /// How a run ends that nothing from outside has stopped.
 #[derive(Clone, Copy, Debug, PartialEq, Eq)]
@@ -96,16 +93,14 @@ pub fn refused(alloc: Global, fault: &AskFault) -> Result<Reply, NoMemory>
     line_reply(alloc, body.as_slice(), Status::Refused)
 }
 
-/// The answer in CSV.
-pub fn answered(alloc: Global, m: &Model, told: &Told) -> Result<Reply, NoMemory>
-    requires { nat_lt told.now.bound.explore (length m.now.explores) ≡ true }
-    ensures { IfOk result (λ reply. reply ≡ answer_reply m.now told.now) }
+/// The answer of a query.
+pub fn answered(answer: Answer) -> Reply
+    ensures { result ≡ printed_answer answer }
 {
-    let x = &m.explores.as_slice()[told.bound.explore as usize];
-    Ok(Reply {
-        body: print_answer(alloc, x, told, OPENING)?,
+    Reply {
+        body: answer.body,
         status: Status::Done,
-    })
+    }
 }
 
 fn line_reply(alloc: Global, text: &[u8], status: Status) -> Result<Reply, NoMemory>

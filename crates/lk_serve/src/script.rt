@@ -1,6 +1,6 @@
 ghost use Rattle.std.specs.Prelude.{◌≡◌, ◌≤◌, IfSome};
 ghost use Rattle.lk_io.specs.Causes.{Rose};
-ghost use Rattle.lk_edition.specs.Offices.{standing_in};
+ghost use Rattle.lk_edition.specs.Offices.{Begins, standing_in};
 ghost use Rattle.lk_session.specs.Runs.{IsSession};
 ghost use Rattle.lk_session.specs.Servers.{server};
 ghost use Rattle.lk_session.specs.Steps.{NeverFall, keeper_in};
@@ -119,7 +119,7 @@ pub(crate) fn script<F: Files, K: Keeper, I: Source, O: Sink, C: Clock>(
     out: &mut O,
     clock: &mut C,
 ) -> Ran<K>
-    ensures served { HasServed (F.told files.old)
+    ensures served { HasServed (F.told files.old) (Begins (K.held keeper) (K.handed keeper))
         (outside (K.held keeper) (K.faults keeper) (I.left input.old) (O.held out.old) (C.moments clock.old))
         (outside (K.held result.keeper) (K.faults result.keeper) (I.left input.new) (O.held out.new) (C.moments clock.new))
         result.status }

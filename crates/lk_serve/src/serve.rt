@@ -2,6 +2,7 @@ ghost use Rattle.std.specs.Prelude.{◌≡◌, ◌≢◌, ◌≤◌, IfErr, IfOk
 ghost use Rattle.std.specs.Io.KnownBytes.{IsAtEnd};
 ghost use Rattle.lk_io.specs.Causes.{Rose};
 ghost use Rattle.lk_io.specs.Streams.{AppendsFront};
+ghost use Rattle.lk_edition.specs.Offices.{Begins};
 ghost use Rattle.lk_serve.specs.Checks.{TellsSome};
 ghost use Rattle.lk_serve.specs.Outcomes.{IsReply};
 ghost use Rattle.lk_serve.specs.Queries as queries;
@@ -54,7 +55,7 @@ pub fn run<F: Files, K: Keeper, I: Source, O: Sink, C: Clock>(
     ensures silent { is_script (asked_by words.now) ≡ false → StopsBefore result.status → O.held out.new ≡ O.held out.old }
     // Words that ask to serve: a session of the server that the files open over what the store held, or the line on why they
     // open none.
-    ensures script { is_script (asked_by words.now) ≡ true → HasServed (F.told files.old)
+    ensures script { is_script (asked_by words.now) ≡ true → HasServed (F.told files.old) (Begins (K.held keeper) (K.handed keeper))
         (outside (K.held keeper) (K.faults keeper) (I.left input.old) (O.held out.old) (C.moments clock.old))
         (outside (K.held result.keeper) (K.faults result.keeper) (I.left input.new) (O.held out.new) (C.moments clock.new))
         result.status }

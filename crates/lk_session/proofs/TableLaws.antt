@@ -21,5 +21,5 @@ pub has_tables : (e : Standing) → IsStanding e → HasTables e.model (sources_
 has_tables e h = record {
   tables = record { tables = map (λ (c : Content). c.rows) e.state.tables };
   valid = valid_tables e.model.schema.tables e.state.tables h.tables;
-  rows = ap (λ n. record { stored = map (λ (c : Content). c.rows) e.state.tables; derived = derived_within e.model (map (λ (c : Content). c.rows) e.state.tables) n }) (sym (ap length h.served.stored));
+  rows = ap (λ n. record { stored = map (λ (c : Content). c.rows) e.state.tables; derived = derived_within e.model (map (λ (c : Content). c.rows) e.state.tables) n }) (sym (ap length h.answerable.stored));
 }

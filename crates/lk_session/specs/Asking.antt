@@ -7,6 +7,7 @@ use Rattle.lk_ask.specs.declared.fault.AskFault.{AskFault}
 use Rattle.lk_ask.specs.declared.told.Told.{Told}
 use Rattle.lk_reply.specs.Statuses.{answer_reply}
 use Rattle.lk_edition.specs.States.{Standing, sources_at}
+use Rattle.lk_session.specs.declared.scratch.Scratch.{Scratch}
 
 -- what a query is told, as a reply that names the edition's number; in CSV where the query or its caller asks so
 abbrev pub replied : Standing → Bool → Result Told AskFault → Result Reply AskFault
@@ -19,3 +20,10 @@ pub record IsAnswered (e : Standing) (user explore body : List ℕ) (now : ℤ) 
   pub told : Result Told AskFault
   pub is_asked : IsAsked e.model e.users (sources_at e.state) user explore body now told
   pub is : result ≡ replied e csv told
+
+-- the counts are those of a query that is answered so: all its visible rows are joined ones, and none is of an aggregate table
+pub record HasCounted (e : Standing) (user explore body : List ℕ) (now : ℤ) (scratch : Scratch) : Type 0 where
+  pub told : Told
+  pub is_asked : IsAsked e.model e.users (sources_at e.state) user explore body now (Ok told)
+  pub joined : scratch.joined_rows ≡ told.visited
+  pub rolled : scratch.rollup_rows ≡ 0

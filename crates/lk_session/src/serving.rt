@@ -7,6 +7,7 @@ ghost use Rattle.lk_session.specs.Servers.{ChecksTo, IsQueried, LoadDoes, Serves
 ghost use Rattle.lk_session.specs.Steps.{keeper_in};
 
 use crate::asking::ask;
+use crate::scratch::Scratch;
 use lk_ask::AskFault;
 use lk_edition::{
     CheckFault, LoadCall, LoadFault, LoadPlan, Office, reply_check_refusal, reply_load_refusal,
@@ -70,7 +71,18 @@ fn query<K: Keeper>(
     ensures { IfOk result (IsQueried (standing_in office.now) user.now explore.now body.now now) }
 {
     let edition = office.edition()?;
-    match ask(alloc, &*edition, user, explore, body.as_slice(), now, false) {
+    let mut scratch = Scratch::new();
+    let asked = ask(
+        alloc,
+        &*edition,
+        user,
+        explore,
+        body.as_slice(),
+        now,
+        false,
+        &mut scratch,
+    );
+    match asked {
         Ok(reply) => Ok(reply),
         Err(AskFault::NoMemory) => Err(NoMemory),
         Err(fault) => reply_refusal(alloc, &fault),

@@ -64,7 +64,7 @@ returns c =
     let s = c.args.sources.now in
     let m = c.args.m.now in
     let now = to_z w64 (of_z w64 c.args.now) in
-    let told = told_is now x s b c.in_ok-plan.plan.bound c.in-Ok.answer c.in_ok-plan.ensures.bound c.in-Ok.ensures.answer c.in-Ok.ensures.within in
+    let told = told_is now x s b c.in_ok-plan.plan.bound c.in-Ok.counted.rows c.in-Ok.counted.answer c.in_ok-plan.ensures.bound c.in-Ok.ensures.answer c.in-Ok.ensures.rows c.in-Ok.ensures.within in
     subst (λ n. IsUnlessMemory is_no_memory c.told_by.result (told_over (explore_at (placed_model n m) b.explore) s b)) (to_z-of_z w64 c.args.now c.ranges.now)
     (subst (λ y. IsUnlessMemory is_no_memory c.told_by.result (told_over y s b))
     (ap (placed_explore now) c.explore_of-x.ensures ∙ sym (explore_is now m b.explore))

@@ -12,4 +12,4 @@ use Rattle.lk_ask.proofs.laws.visible_rows_decide_what_is_told.Goals as goal
 pub returns : goal.returns
 returns c = λ m now s t b same.
     let x = explore_at (placed_model now m) b.explore in
-    ap (λ (rows : List Joined). if nat_lt 1000000 (length rows) then Err fault.Q10 else told_by x b (answer_over x b (passing_rows x b.rows rows))) same
+    ap (λ (rows : List Joined). if nat_lt 1000000 (length rows) then Err fault.Q10 else told_by x b (length rows) (answer_over x b (passing_rows x b.rows rows))) same

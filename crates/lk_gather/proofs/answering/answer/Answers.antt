@@ -1,14 +1,16 @@
 use Rattle.std.proofs.Common.{◌≡◌, ◌∙◌, ap, length, subst, sym, w64}
-use Rattle.std.specs.Prelude.{IfOk}
 use Rattle.std.proofs.lemmas.Int.{to_z-of_z}
 use Rattle.lk_semantics.specs.Answers.{dims_of, ops_of}
 use Rattle.lk_semantics.specs.Rows.{visible_rows}
+use Rattle.lk_types.specs.declared.bound.Plan.{Plan}
+use Rattle.lk_types.specs.declared.explore.Explore.{Explore}
+use Rattle.lk_exec.specs.Places.{place_after}
 use Rattle.lk_exec.specs.Visits.{IsOver, IsWithin}
 use Rattle.lk_filter.specs.PlacedModel.{placed_explore}
 use Rattle.lk_gather.specs.Gathers.{rows_seen}
 use Rattle.lk_gather.proofs.AnswerLaws.{answer_is, seen_are}
 use Rattle.lk_gather.proofs.PlacedLaws.{query_components_are}
-use Rattle.lk_gather.proofs.VisitLaws.{always, begun_at, moved, moved_over}
+use Rattle.lk_gather.proofs.VisitLaws.{begun_at, moved, moved_over}
 use Rattle.lk_gather.proofs.answering.answer.Goals as goal
 
 pub gather_rows-requires-clause-first : goal.gather_rows-requires-clause-first
@@ -38,8 +40,18 @@ returns-clause-answer c =
     let plan = c.args.plan.now in
     let s = c.args.sources.now in
     let done = moved _ c.args.now _ x _ plan s c.args.cap c.in-Ok.acc (c.in_ok-asked.ensures.moment ∙ to_z-of_z w64 c.args.now c.ranges.now) c.in_ok-asked.ensures.explore c.in_ok-asked.ensures.plan c.in-Ok.ensures.visited in
-    subst (λ a. IfOk c.finish.result (λ answer. answer ≡ a)) (answer_is c.args.now x s plan c.requires.plan)
-    (c.finish.ensures.answer c.args.now done.count (rows_seen x s plan) done.gathered)
+    subst (λ a. c.in_ok-finish-in-Ok.field-0 ≡ a) (answer_is c.args.now x s plan c.requires.plan)
+    (c.in_ok-finish-in-Ok.ensures.answer c.args.now done.count (rows_seen x s plan) done.gathered)
+
+pub returns-clause-rows : goal.returns-clause-rows
+returns-clause-rows c =
+    let x = c.args.explore.now in
+    let plan = c.args.plan.now in
+    let s = c.args.sources.now in
+    c.in-Ok.ensures.count
+    ∙ ap (λ (y : Explore). place_after (rows_seen y s c.in_ok-asked.asked.plan.now)) c.in_ok-asked.ensures.explore
+    ∙ ap (λ (p : Plan). place_after (rows_seen x s p)) c.in_ok-asked.ensures.plan
+    ∙ ap place_after (seen_are c.args.now x s plan c.requires.plan)
 
 pub returns-clause-within : goal.returns-clause-within
 returns-clause-within c =
@@ -47,4 +59,4 @@ returns-clause-within c =
     let plan = c.args.plan.now in
     let s = c.args.sources.now in
     let done = moved _ c.args.now _ x _ plan s c.args.cap c.in-Ok.acc (c.in_ok-asked.ensures.moment ∙ to_z-of_z w64 c.args.now c.ranges.now) c.in_ok-asked.ensures.explore c.in_ok-asked.ensures.plan c.in-Ok.ensures.visited in
-    always (IsWithin c.args.cap (visible_rows (placed_explore c.args.now x) s plan.bound)) c.finish.result (subst (IsWithin c.args.cap) (seen_are c.args.now x s plan c.requires.plan) done.within)
+    subst (IsWithin c.args.cap) (seen_are c.args.now x s plan c.requires.plan) done.within

@@ -2,7 +2,7 @@
 use Rattle.std.proofs.Common.{◌≡◌, ◌++◌, ◌+◌, ◌<◌, length}
 use Rattle.std.specs.List.{All}
 use Rattle.lk_edition.specs.Openings.{Seed}
-use Rattle.lk_serve.specs.Scripts.{numbered}
+use Rattle.lk_serve.specs.Opened.{numbered}
 use Rattle.lk_serve.proofs.opening.numbered.Given as goal
 
 abbrev pub invariant-loop-seed : goal.invariant-loop-seed

@@ -1,0 +1,113 @@
+-- What a folder's project opens over what a store handed over: the edition of its opening, or the line on why there is none. (lookd)
+use Rattle.std.specs.Prelude.{◌≡◌, ◌⊎◌, ◌+◌, ℕ, List, [], ◌∷◌, codes, Option, Some, None, Result, Ok, Err}
+use Rattle.lk_val.specs.declared.fault.FaultLine.{FaultLine}
+use Rattle.lk_val.specs.declared.fault.ModelFault.{ModelFault}
+use Rattle.lk_val.specs.declared.fault.ModelFault.TheVariants as model
+use Rattle.lk_io.specs.declared.files.File.{File}
+use Rattle.lk_types.specs.Printing.{value_text}
+use Rattle.lk_types.specs.declared.model.Model.{Model}
+use Rattle.lk_table.specs.declared.fault.BatchFault.{BatchFault}
+use Rattle.lk_table.specs.declared.fault.BatchFault.TheVariants as batch
+use Rattle.lk_include.specs.Gathering.{file_line}
+use Rattle.lk_include.specs.declared.project.ProjectFault.{ProjectFault}
+use Rattle.lk_include.specs.declared.project.ProjectFault.TheVariants as project
+use Rattle.lk_keep.specs.declared.kept.Kept.{Kept}
+use Rattle.lk_resolve.specs.Loading.{IsLoadOf}
+use Rattle.lk_resolve.specs.declared.loading.Loaded.{Loaded}
+use Rattle.lk_seed.specs.Faults.{seed_fault}
+use Rattle.lk_seed.specs.Seeds.{data_path, seeds_of}
+use Rattle.lk_seed.specs.Seeds as seeds
+use Rattle.lk_edition.specs.Offices.{IsOpening}
+use Rattle.lk_edition.specs.Openings.{Seed}
+use Rattle.lk_edition.specs.Standings.{IsAnswerable, IsServed}
+use Rattle.lk_edition.specs.States.{Standing}
+use Rattle.lk_edition.specs.declared.fault.OpenFault.{OpenFault}
+use Rattle.lk_edition.specs.declared.fault.OpenFault.TheVariants as opening
+use Rattle.lk_serve.specs.Replies.{fault_reply, unanswered_reply}
+use Rattle.lk_serve.specs.declared.opening.Service.{Service}
+use Rattle.lk_serve.specs.declared.opening.Service.TheVariants as service
+use Rattle.lk_serve.specs.declared.replies.Reply.{Reply}
+
+-- ---- the seeds of an opening
+
+-- the batches of the data files, each with the number of its table, from one number on
+abbrev pub numbered : ℕ → List seeds.Seed → List Seed
+numbered n [] = []
+numbered n (None ∷ more) = numbered (n + 1) more
+numbered n (Some body ∷ more) = (n, body) ∷ numbered (n + 1) more
+
+-- ---- an edition that does not open
+
+-- the fault of a kept batch, by its table: its row, its code, and its column or key
+abbrev pub unread_line : List ℕ → ℕ → List ℕ → List ℕ → FaultLine
+unread_line table row code name = record { code = codes "O1"; path = table; place = row; name = code; other = name }
+
+abbrev pub unread_fault : List ℕ → BatchFault → ModelFault
+unread_fault table (batch.L3 row column) = model.Fault (unread_line table row (codes "L3") column)
+unread_fault table (batch.L4 key) = model.Fault (unread_line table 0 (codes "L4") (value_text key))
+unread_fault table (batch.L5 row) = model.Fault (unread_line table row (codes "L5") [])
+unread_fault table batch.NoMemory = model.NoMemory
+
+-- the line of a fault; want of memory has none
+abbrev pub line_of : ModelFault → Option FaultLine
+line_of (model.Fault line) = Some line
+line_of model.NoMemory = None
+
+-- the fault of an opening, where neither the store failed nor memory was refused
+abbrev pub open_fault : OpenFault → ModelFault
+open_fault (opening.Unread table fault) = unread_fault table fault
+open_fault (opening.Seed table fault) = seed_fault (data_path table) fault
+open_fault opening.Full = model.Fault (file_line (codes "L6") [] 0 [])
+open_fault opening.Store = model.NoMemory
+open_fault opening.NoMemory = model.NoMemory
+
+abbrev pub open_line : OpenFault → Option FaultLine
+open_line fault = line_of (open_fault fault)
+
+-- the line of some fault, or that the model is not served (Z1)
+abbrev pub TellsLine : Reply → Type 0
+TellsLine reply = ((line : FaultLine) × (reply ≡ fault_reply line)) ⊎ (reply ≡ unanswered_reply)
+
+-- ---- what the project's files open
+
+-- it opens with this edition, or does not, with this line
+abbrev pub Opens : Option FaultLine → Reply → Type 0
+Opens None reply = ⊥
+Opens (Some line) reply = reply ≡ fault_reply line
+
+abbrev pub OpenedAs : Result Standing OpenFault → Result Standing Reply → Type 0
+OpenedAs (Ok e) result = result ≡ Ok e
+OpenedAs (Err fault) (Ok e) = ⊥
+OpenedAs (Err fault) (Err reply) = Opens (open_line fault) reply
+
+-- over the batches of the data files, and what the store handed over
+pub record OverSeeds (loaded : Loaded) (begins : Kept → Type 0) (seeds : List seeds.Seed) (result : Result Standing Reply) : Type 0 where
+  pub opened : Result Standing OpenFault
+  pub is_opening : IsOpening loaded.model loaded.users begins (numbered 0 seeds) opened
+  pub told : OpenedAs opened result
+
+abbrev pub OverFiles : Loaded → (Kept → Type 0) → Result (List seeds.Seed) ProjectFault → Result Standing Reply → Type 0
+OverFiles loaded begins (Ok seeds) result = OverSeeds loaded begins seeds result
+OverFiles loaded begins (Err (project.Model fault)) result = result ≡ Err (fault_reply fault)
+OverFiles loaded begins (Err project.Failed) result = ⊥
+OverFiles loaded begins (Err project.NoMemory) result = ⊥
+
+-- what is served of a project: queries alone, or all requests
+abbrev pub IsServable : Service → Model → Type 0
+IsServable service.Queries m = IsAnswerable m
+IsServable service.Requests m = IsServed m
+
+-- a model is served as it may be; no other is so far (Z1)
+abbrev pub OverLoaded : Service → List File → (Kept → Type 0) → Result Loaded ProjectFault → Result Standing Reply → Type 0
+OverLoaded service files begins (Ok loaded) result =
+    (IsServable service loaded.model × OverFiles loaded begins (seeds_of loaded.model.schema.tables files) result)
+    ⊎ ((IsServable service loaded.model → ⊥) × (result ≡ Err unanswered_reply))
+OverLoaded service files begins (Err (project.Model fault)) result = result ≡ Err (fault_reply fault)
+OverLoaded service files begins (Err project.Failed) result = ⊥
+OverLoaded service files begins (Err project.NoMemory) result = ⊥
+
+-- the edition that a folder's project opens over what a store handed over, or the line on why it does not
+pub record IsOpened (service : Service) (files : List File) (begins : Kept → Type 0) (result : Result Standing Reply) : Type 0 where
+  pub loaded : Result Loaded ProjectFault
+  pub is_load : IsLoadOf files loaded
+  pub over : OverLoaded service files begins loaded result
