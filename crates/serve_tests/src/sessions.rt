@@ -1,6 +1,6 @@
 use crate::failing::{MODEL, SCHEMA, calls, clock, file};
 use lk_io::{MemFiles, MemSink, MemSource};
-use lk_keep::{Keeper, Kept, MemKeeper};
+use lk_keep::{Keeper, Kept, KeptId, MemKeeper};
 use lk_serve::run;
 use lk_val::{Bytes, Items, NoMemory, Text};
 use std::alloc::Global;
@@ -10,6 +10,12 @@ const USERS: &str = "user,attribute,value\netl,loader,yes\n";
 
 const FIRST: &str =
     "HTTP/1.1 200 OK\r\nContent-Type: application/json\r\nContent-Length: 23\r\n\r\n{\"rows\":1,\"snapshot\":1}";
+
+const KEPT: &str =
+    "HTTP/1.1 200 OK\r\nContent-Type: application/json\r\nContent-Length: 23\r\n\r\n{\"rows\":1,\"snapshot\":5}";
+
+const FULL: &str =
+    "HTTP/1.1 413 Payload Too Large\r\nContent-Type: application/json\r\nContent-Length: 14\r\n\r\n{\"error\":\"L6\"}";
 
 const UNSAVED: &str =
     "HTTP/1.1 503 Service Unavailable\r\nContent-Type: application/json\r\nContent-Length: 14\r\n\r\n{\"error\":\"K1\"}";
@@ -47,11 +53,20 @@ fn files(alloc: Global) -> Result<MemFiles, NoMemory> {
     MemFiles::new(alloc, files, Items::new(alloc))
 }
 
-fn keeper(alloc: Global, failing: Option<u64>) -> Result<MemKeeper, NoMemory> {
+// A store of so many loads of one row, none of whose batches are left.
+fn keeper(alloc: Global, loads: u64, failing: Option<u64>) -> Result<MemKeeper, NoMemory> {
+    let mut ids = Items::new(alloc);
+    for number in 1..=loads {
+        ids.push(KeptId {
+            id: Text::from_string(format!(in alloc; "{number}")?),
+            number,
+            rows: 1,
+        })?;
+    }
     let kept = Kept {
-        number: 0,
+        number: loads,
         chunks: Items::new(alloc),
-        ids: Items::new(alloc),
+        ids,
     };
     Ok(MemKeeper::new(kept, calls(alloc, failing)?))
 }
@@ -69,6 +84,15 @@ fn loads(alloc: Global, ids: &[(u64, u64)]) -> Result<Bytes, NoMemory> {
 }
 
 fn serve(alloc: Global, ids: &[(u64, u64)], failing: Failing) -> Result<Ended, NoMemory> {
+    serve_over(alloc, keeper(alloc, 0, failing.store)?, ids, failing)
+}
+
+fn serve_over(
+    alloc: Global,
+    keeper: MemKeeper,
+    ids: &[(u64, u64)],
+    failing: Failing,
+) -> Result<Ended, NoMemory> {
     let mut words = Items::new(alloc);
     for word in ["script", "mini"] {
         words.push(Text::from_str(alloc, word)?)?;
@@ -81,7 +105,7 @@ fn serve(alloc: Global, ids: &[(u64, u64)], failing: Failing) -> Result<Ended, N
         alloc,
         words.as_slice(),
         &mut files,
-        keeper(alloc, failing.store)?,
+        keeper,
         &mut input,
         &mut out,
         &mut clock,
@@ -156,5 +180,24 @@ fn nothing_goes_out_behind_an_output_that_failed(rt: HostRuntime) -> Result<(), 
     let ended = serve(rt.alloc(), &[(7, 13), (8, 14), (9, 15)], failing).or(Err("memory"))?;
     assert_eq!(rt; ended.status, 4);
     assert_eq!(rt; ended.written.held(), FIRST.as_bytes());
+    Ok(())
+}
+
+#[test]
+fn a_store_of_100000_loads_keeps_its_replies_and_takes_no_more(
+    rt: HostRuntime,
+) -> Result<(), Fail> {
+    let alloc = rt.alloc();
+    let keeper = keeper(alloc, 100_000, None).or(Err("memory"))?;
+    let mut ended = serve_over(alloc, keeper, &[(5, 13), (200_000, 14)], NOTHING).or(Err(
+        "memory",
+    ))?;
+    let wanted = replies(alloc, &[KEPT, FULL]).or(Err("memory"))?;
+    assert_eq!(rt; ended.status, 0);
+    assert_eq!(rt; ended.written.held(), wanted.as_slice());
+    let kept = ended.keeper.load_all(alloc).or(Err("store"))?;
+    assert_eq!(rt; kept.number, 100_000);
+    assert_eq!(rt; kept.ids.len(), 100_000);
+    assert!(rt; kept.chunks.is_empty());
     Ok(())
 }

@@ -12,7 +12,7 @@ use std::alloc::Global;
 
 /// The answer of a line: `load` loads batches into an empty table, each behind the rows or, where `!` is before it, in
 /// their place, and `compact` puts the rows into one block then; `text` answers the canonical text of one batch, and
-/// `appends` appends so many batches of one row. The answer is the table, or the first fault.
+/// `appends` appends so many batches of one row and compacts them. The answer is the table, or the first fault.
 pub fn answer_line(alloc: Global, line: &str) -> Result<Text, CaseFault> {
     if line.is_empty() || line.starts_with("#") {
         return Ok(Text::from_str(alloc, line)?);
@@ -88,7 +88,7 @@ fn canonical(alloc: Global, def: &TableDef, batch: &str) -> Result<Text, CaseFau
     }
 }
 
-// So many batches of one row, and the rows of them all in one block.
+// So many batches of one row: the blocks that they stand in, those after they were compacted, and the rows then.
 fn appends(alloc: Global, count: u32) -> Result<Text, CaseFault> {
     let def = table_of(alloc, "*id number, region text")?;
     let mut table = TableVersion::empty(alloc, &def)?;
@@ -99,5 +99,10 @@ fn appends(alloc: Global, count: u32) -> Result<Text, CaseFault> {
             Err(fault) => return answer_fault(alloc, &fault),
         }
     }
-    answer_table(alloc, &compact(alloc, &table)?, 2)
+    let compacted = compact(alloc, &table)?;
+    let before = table.blocks();
+    let after = compacted.blocks();
+    let rows = answer_table(alloc, &compacted, 2)?;
+    let rows = rows.as_str();
+    Ok(Text::from_string(format!(in alloc; "{before} blocks, then {after}: {rows}")?))
 }
