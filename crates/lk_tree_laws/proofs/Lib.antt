@@ -1,0 +1,9 @@
+pub mod Among
+pub mod PartsLaws
+pub mod TableLaws
+pub mod PastLaws
+pub mod KeyLaws
+pub mod RoundLaws
+pub mod AgreementLaws
+pub mod ModelLaws
+pub mod ViewLaws
