@@ -13,9 +13,9 @@ ghost use Rattle.lk_semantics.specs.Resolved.{has_exact_keys};
 ghost use Rattle.lk_semantics.specs.Rollups.{determined_views, present_views};
 ghost use Rattle.lk_tree_laws.specs.ViewKeys.{view_key};
 
-/// Over the valid tables of a model whose enforced keys an explore has: joined rows with one key of a view, enforced and
-/// not null, have the same row of each view that the key determines, or none all of them; and each row with such a key
-/// has a row of each view that is present with it. A law: it computes nothing. (lookd)
+/// Over the valid tables of a model whose enforced keys an explore has: two joined rows with one key of a view, enforced
+/// and not null, have the same row of each view that the key determines, or both have none; and a row with such a key has
+/// a row of each view that is present with it. A law: it computes nothing. (lookd)
 pub fn rows_with_one_key_agree()
     ensures determined { (m : Model) (x : Explore) (s : Sources) (joins : List ℕ) (v w : ℕ) (one other : Joined)
         → has_exact_keys m x ≡ true → are_valid_tables m.schema.tables s.stored ≡ true

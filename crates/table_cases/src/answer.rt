@@ -79,7 +79,8 @@ pub fn answer_text(alloc: Global, text: &[u8]) -> Result<Text, CaseFault> {
     as_text(alloc, &line)
 }
 
-fn as_text(alloc: Global, line: &Bytes) -> Result<Text, CaseFault> {
+/// The line as a text.
+pub fn as_text(alloc: Global, line: &Bytes) -> Result<Text, CaseFault> {
     match Text::from_utf8(alloc, line.as_slice())? {
         Some(text) => Ok(text),
         None => Err(CaseFault::NoSuchCase),

@@ -2,17 +2,19 @@ ghost use Rattle.std.specs.Prelude.{IfOk, map};
 ghost use Rattle.lk_table.specs.Contents.{kind_of};
 ghost use Rattle.lk_table.specs.Versions.{IsShaped};
 
-use crate::answer::{answer_fault, answer_table, answer_text};
+use crate::answer::{answer_fault, answer_table, answer_text, as_text};
 use crate::definition::table_of;
 use case_lines::{CaseFault, written};
+use lk_region::Region;
 use lk_table::{BatchFault, TableVersion, apply, batch_text, compact, read_batch};
 use lk_types::TableDef;
-use lk_val::Text;
+use lk_val::{Bytes, Text};
 use std::alloc::Global;
 
 /// The answer of a line: `load` loads batches into an empty table, each behind the rows or, where `!` is before it, in
 /// their place, and `compact` puts the rows into one block then; `text` answers the canonical text of one batch, and
-/// `appends` appends so many batches of one row and compacts them. The answer is the table, or the first fault.
+/// `appends` appends so many batches of one row and compacts them. The answer is the table, or the first fault. `marks` gives
+/// texts to a region: their marks, how many texts it keeps, and how many after it was reset.
 pub fn answer_line(alloc: Global, line: &str) -> Result<Text, CaseFault> {
     if line.is_empty() || line.starts_with("#") {
         return Ok(Text::from_str(alloc, line)?);
@@ -20,6 +22,9 @@ pub fn answer_line(alloc: Global, line: &str) -> Result<Text, CaseFault> {
     let (task, rest) = line.split_once(" ").ok_or(CaseFault::NoSuchCase)?;
     if task == "appends" {
         return appends(alloc, rest.parse::<u32>().or(Err(CaseFault::NoSuchCase))?);
+    }
+    if task == "marks" {
+        return marks(alloc, rest);
     }
     let (columns, batches) = rest.split_once(" & ").ok_or(CaseFault::NoSuchCase)?;
     let def = table_of(alloc, columns)?;
@@ -105,4 +110,19 @@ fn appends(alloc: Global, count: u32) -> Result<Text, CaseFault> {
     let rows = answer_table(alloc, &compacted, 2)?;
     let rows = rows.as_str();
     Ok(Text::from_string(format!(in alloc; "{before} blocks, then {after}: {rows}")?))
+}
+
+// The marks of texts, which stand between spaces.
+fn marks(alloc: Global, texts: &str) -> Result<Text, CaseFault> {
+    let mut region = Region::new(alloc);
+    let mut line = Bytes::new(alloc);
+    for text in texts.split(' ') {
+        let mark = region.intern(text.as_bytes())?.0;
+        line.append(format!(in alloc; "{mark}, ")?.as_bytes())?;
+    }
+    let kept = region.len();
+    region.reset();
+    let left = region.len();
+    line.append(format!(in alloc; "{kept} texts, {left} after the reset")?.as_bytes())?;
+    as_text(alloc, &line)
 }
