@@ -4,7 +4,7 @@
 # chains of views that say one field anew; diamonds of ten and of 40 levels.
 # With each line stands the most memory that its process took. A measurement, not a test: it builds a program in a folder
 # of its own, which proves it first.
-crates='lk_val lk_utf8 lk_read lk_io lk_params lk_include lk_merge'
+crates='lk_val lk_utf8 lk_read lk_io lk_params lk_include lk_overlay lk_merge'
 uses='lk_val lk_io lk_include lk_merge'
 . "$(dirname "$0")/workspace.sh"
 cat >"$work/crates/timing/src/main.rt" <<'END'

@@ -10,12 +10,13 @@ use Rattle.lk_val.specs.Least.{is_in, grown_times}
 use Rattle.lk_val.proofs.LeastLaws.{IsEquality, IsMonotone, least_set-kept, any_within}
 use Rattle.lk_val.specs.Texts.{is_same_text}
 use Rattle.lk_params.proofs.Steps.{text_exact}
-use Rattle.lk_merge.specs.declared.declaration.Kind.{Kind}
+use Rattle.lk_overlay.specs.declared.kind.Kind.{Kind}
 use Rattle.lk_merge.specs.declared.declaration.Declaration.{Declaration}
 use Rattle.lk_merge.specs.Objects.{bases_of, declared_names}
 use Rattle.lk_merge.specs.MergeFaults.{reaches, reached, is_on_cycle}
 use Rattle.lk_merge.specs.Ranks.{rank_in, is_below, is_at_most, descends, keeps_down, do_keep_down, leads}
-use Rattle.lk_merge.proofs.RankLaws.{split_and, split_or, or_later, some_of, all_of, never_below, same_itself}
+use Rattle.lk_merge.proofs.RankLaws.{split_and, split_or, or_later, some_of, all_of, never_below}
+use Rattle.lk_overlay.proofs.TextLaws.{same_itself}
 
 most_below : (a b c : Option ℕ) → is_at_most a b ≡ true → is_below b c ≡ true → is_below a c ≡ true
 most_below (Some a) (Some b) (Some c) h k = grind (arith, nat_tests)

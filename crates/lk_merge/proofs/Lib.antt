@@ -4,11 +4,6 @@ pub mod NameLaws
 pub mod RankLaws
 pub mod Steps
 pub mod CircleLaws
-pub mod MapLaws
 pub mod OwnLaws
-pub mod GroupLaws
-pub mod LayLaws
-pub mod ChildLaws
-pub mod MergeLaws
 pub mod SettledLaws
 pub mod RowLaws

@@ -8,7 +8,8 @@ use Rattle.std.proofs.lemmas.Map.Views.{any-filter_same}
 use Rattle.lk_val.specs.Least.{is_in, grown_times}
 use Rattle.lk_val.specs.Texts.{is_same_text}
 use Rattle.lk_params.proofs.Steps.{text_exact}
-use Rattle.lk_merge.specs.declared.declaration.Kind.{Kind}
+use Rattle.lk_overlay.proofs.TextLaws.{same_itself}
+use Rattle.lk_overlay.specs.declared.kind.Kind.{Kind}
 use Rattle.lk_merge.specs.declared.declaration.Declaration.{Declaration}
 use Rattle.lk_merge.specs.Objects.{bases_of, declared_names, declaration_of}
 use Rattle.lk_merge.specs.MergeFaults.{reaches, is_on_cycle, cycle_line, extends_itself}
@@ -25,10 +26,6 @@ split_or false b h = inr h
 pub or_later : (a b : Bool) → b ≡ true → (a || b) ≡ true
 or_later true b h = refl
 or_later false b h = h
-
-pub same_itself : (x : List ℕ) → is_same_text x x ≡ true
-same_itself [] = refl
-same_itself (c ∷ cs) = grind (arith, nat_tests, same_itself cs)
 
 -- a test of some text passes one that is there
 pub some_of : (test : List ℕ → Bool) (texts : List (List ℕ)) → list_any test texts ≡ true

@@ -5,7 +5,7 @@ use Rattle.std.specs.Cmp.Lexicographic.{slice_cmp}
 use Rattle.std.proofs.lemmas.List.{drop_more}
 use Rattle.lk_read.specs.declared.tree.Item.{Item}
 use Rattle.lk_merge.specs.Rows.{IsRow}
-use Rattle.lk_merge.proofs.OwnLaws.{tied_exact}
+use Rattle.lk_overlay.proofs.TextLaws.{tied_exact}
 
 pub row_step : (row : List ℕ → List Item) (blocks after : List (List Item)) (names : List (List ℕ)) (i : ℕ) (name : List ℕ) (got : Option (List Item)) (v : List Item)
     → i < length names → name ≡ get_or names i name → IsRow (row name) got → Some v ≡ got → after ≡ blocks ++ v ∷ []

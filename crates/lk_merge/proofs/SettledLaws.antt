@@ -8,14 +8,15 @@ use Rattle.lk_val.specs.Least.{is_in}
 use Rattle.lk_val.specs.Texts.{is_same_text}
 use Rattle.lk_params.proofs.Steps.{text_exact}
 use Rattle.lk_read.specs.declared.tree.Item.{Item}
-use Rattle.lk_merge.specs.declared.declaration.Kind.{Kind}
+use Rattle.lk_overlay.specs.declared.kind.Kind.{Kind}
 use Rattle.lk_merge.specs.declared.declaration.Declaration.{Declaration}
 use Rattle.lk_merge.specs.Objects.{bases_of, contributors, own, handed_on, handed_within, kept}
-use Rattle.lk_merge.specs.Overlay.{merged}
+use Rattle.lk_overlay.specs.Overlay.{merged}
 use Rattle.lk_merge.specs.Ranks.{rank_in, is_below, descends, do_descend}
 use Rattle.lk_merge.specs.Rows.{row_of}
-use Rattle.lk_merge.proofs.RankLaws.{split_and, or_later, same_itself, all_of}
-use Rattle.lk_merge.proofs.MergeLaws.{merged_by_each}
+use Rattle.lk_merge.proofs.RankLaws.{split_and, or_later, all_of}
+use Rattle.lk_overlay.proofs.TextLaws.{same_itself}
+use Rattle.lk_overlay.proofs.MergeLaws.{merged_by_each}
 
 -- a name that has a number is there
 ranked_there : (names : List (List ℕ)) (ranks : List ℕ) (name : List ℕ) (r : ℕ) → rank_in names ranks name ≡ Some r → is_in is_same_text name names ≡ true

@@ -4,7 +4,7 @@ use Rattle.std.specs.Ordering.{nat_cmp}
 use Rattle.std.specs.Cmp.Lexicographic.{slice_cmp}
 use Rattle.std.specs.Borrow.{Bor}
 use Rattle.std.specs.BTreeMap.{BTreeMap, get}
-use Rattle.lk_merge.specs.declared.declaration.Kind.{Kind}
+use Rattle.lk_overlay.specs.declared.kind.Kind.{Kind}
 use Rattle.lk_merge.specs.declared.declaration.Declaration.{Declaration}
 use Rattle.lk_merge.specs.Objects.{own}
 

@@ -1,9 +1,7 @@
 pub mod Naming
-pub mod Overlay
 pub mod Declarations
 pub mod Objects
 pub mod ByName
-pub mod Grouped
 pub mod Walking
 pub mod MergeFaults
 pub mod Ranks

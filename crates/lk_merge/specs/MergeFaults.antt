@@ -6,8 +6,8 @@ use Rattle.std.specs.Option.{option_or, option_and_then}
 use Rattle.lk_val.specs.Texts.{is_same_text}
 use Rattle.lk_val.specs.Least.{is_in, least_set}
 use Rattle.lk_val.specs.declared.fault.FaultLine.{FaultLine}
-use Rattle.lk_merge.specs.declared.declaration.Kind.{Kind}
-use Rattle.lk_merge.specs.declared.declaration.Kind.TheVariants as kind
+use Rattle.lk_overlay.specs.declared.kind.Kind.{Kind}
+use Rattle.lk_overlay.specs.declared.kind.Kind.TheVariants as kind
 use Rattle.lk_merge.specs.declared.declaration.Declaration.{Declaration}
 use Rattle.lk_params.specs.Picking.{first_in, first_along}
 use Rattle.lk_merge.specs.Declarations.{is_same_kind}

@@ -3,7 +3,7 @@ use Rattle.std.specs.Prelude.{◌≡◌, length, Option, Some, None, Result, Ok,
 use Rattle.lk_val.specs.declared.fault.ModelFault.{ModelFault}
 use Rattle.lk_val.specs.declared.fault.ModelFault.TheVariants.{Fault, NoMemory}
 use Rattle.lk_val.specs.declared.fault.FaultLine.{FaultLine}
-use Rattle.lk_merge.specs.declared.declaration.Kind.TheVariants as kind
+use Rattle.lk_overlay.specs.declared.kind.Kind.TheVariants as kind
 use Rattle.lk_merge.specs.declared.project.Merged.{Merged}
 use Rattle.lk_include.specs.declared.project.Project.{Project}
 use Rattle.lk_merge.specs.Declarations.{declarations}

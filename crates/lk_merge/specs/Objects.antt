@@ -12,13 +12,13 @@ use Rattle.lk_read.specs.TreeOutline.{outline_of}
 use Rattle.lk_read.specs.declared.tree.Item.{Item}
 use Rattle.lk_params.specs.Parameters.{items_of, is_named, last_named}
 use Rattle.lk_params.specs.Values.{scalar, words}
-use Rattle.lk_merge.specs.declared.declaration.Kind.{Kind}
-use Rattle.lk_merge.specs.declared.declaration.Kind.TheVariants as kind
+use Rattle.lk_overlay.specs.declared.kind.Kind.{Kind}
+use Rattle.lk_overlay.specs.declared.kind.Kind.TheVariants as kind
 use Rattle.lk_merge.specs.declared.declaration.Declaration.{Declaration}
 use Rattle.lk_merge.specs.declared.project.Object.{Object}
 use Rattle.lk_params.specs.Picking.{firsts, last_given, or_list}
 use Rattle.lk_merge.specs.Declarations.{is_same_kind}
-use Rattle.lk_merge.specs.Overlay.{merged}
+use Rattle.lk_overlay.specs.Overlay.{merged}
 
 -- ---- one declaration
 

@@ -5,7 +5,7 @@ use Rattle.std.specs.Prelude.{ℕ, Bool, false, nat_le, nat_lt, ◌&&◌, if◌t
 use Rattle.std.specs.List.{list_all}
 use Rattle.lk_val.specs.Least.{is_in}
 use Rattle.lk_val.specs.Texts.{is_same_text}
-use Rattle.lk_merge.specs.declared.declaration.Kind.{Kind}
+use Rattle.lk_overlay.specs.declared.kind.Kind.{Kind}
 use Rattle.lk_merge.specs.declared.declaration.Declaration.{Declaration}
 use Rattle.lk_merge.specs.Objects.{bases_of, declared_names}
 

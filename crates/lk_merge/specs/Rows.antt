@@ -4,10 +4,10 @@ use Rattle.std.specs.Ordering.{nat_cmp}
 use Rattle.std.specs.Cmp.Lexicographic.{slice_cmp}
 use Rattle.std.specs.BTreeMap.{BTreeMap, get}
 use Rattle.lk_read.specs.declared.tree.Item.{Item}
-use Rattle.lk_merge.specs.declared.declaration.Kind.{Kind}
+use Rattle.lk_overlay.specs.declared.kind.Kind.{Kind}
 use Rattle.lk_merge.specs.declared.declaration.Declaration.{Declaration}
 use Rattle.lk_merge.specs.Objects.{handed_within}
-use Rattle.lk_merge.specs.Overlay.{merged}
+use Rattle.lk_overlay.specs.Overlay.{merged}
 
 -- what an object hands on as one block
 abbrev pub row_of : List Declaration → Kind → List ℕ → List Item

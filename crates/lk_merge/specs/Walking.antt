@@ -4,7 +4,7 @@ use Rattle.std.specs.Prelude.{ℕ, zero, suc, List, [], ◌∷◌, ◌++◌}
 use Rattle.std.specs.Borrow.{Bor}
 use Rattle.std.specs.List.{sum_by}
 use Rattle.lk_read.specs.declared.tree.Item.{Item}
-use Rattle.lk_merge.specs.declared.declaration.Kind.{Kind}
+use Rattle.lk_overlay.specs.declared.kind.Kind.{Kind}
 use Rattle.lk_merge.specs.declared.declaration.Declaration.{Declaration}
 use Rattle.lk_merge.specs.Objects.{bases_of, handed_on, handed_within}
 

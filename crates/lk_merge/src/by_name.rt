@@ -1,11 +1,12 @@
 ghost use Rattle.std.specs.Prelude.{◌≡◌, ◌++◌, ◌∷◌, [], ℕ, List, IfOk, OnOk, None, Some, if◌then◌else◌, map};
 ghost use Rattle.std.specs.Option.{option_or};
 ghost use Rattle.lk_val.specs.Texts.{is_same_text};
-ghost use Rattle.lk_merge.specs.declared.declaration.Kind.TheVariants as kind;
+ghost use Rattle.lk_overlay.specs.declared.kind.Kind.TheVariants as kind;
 ghost use Rattle.lk_merge.specs.Objects.{own};
 ghost use Rattle.lk_merge.specs.ByName.{HasOwn, found_at, own_at};
 
-use crate::declaration::{Declaration, Kind};
+use crate::declaration::Declaration;
+use lk_overlay::Kind;
 use lk_val::{Items, NoMemory, Text};
 use std::alloc::Global;
 use std::collections::BTreeMap;

@@ -5,9 +5,9 @@ ghost use Rattle.lk_merge.specs.Ranks.{do_keep_down, is_at_most, keeps_down, lea
 
 use crate::by_name::Declared;
 use crate::contributors::bases_of;
-use crate::declaration::Kind;
 use crate::paths::{path_back, reach_counts};
 use crate::ranks::{base_places, descends, rank_in};
+use lk_overlay::Kind;
 use lk_val::{Items, NoMemory, Text, is_among};
 use std::alloc::Global;
 

@@ -7,7 +7,8 @@ ghost use Rattle.lk_val.specs.Texts.{is_same_text};
 ghost use Rattle.lk_params.specs.Picking.{firsts};
 
 use crate::by_name::Declared;
-use crate::declaration::{Declaration, Kind};
+use crate::declaration::Declaration;
+use lk_overlay::Kind;
 use lk_params::{copy_item, firsts, joined, parameters_of, words};
 use lk_read::Item;
 use lk_val::{Items, NoMemory, Text};

@@ -8,10 +8,10 @@ ghost use Rattle.lk_merge.specs.MergeFaults.{reaches, reached, is_on_cycle, cycl
 use crate::by_name::Declared;
 use crate::circles::shown_cycle;
 use crate::contributors::{bases_of, declaration_of};
-use crate::declaration::Kind;
 use crate::faults::fault_at;
 use crate::names::declared_names;
 use crate::ranks::{do_descend, ranks};
+use lk_overlay::Kind;
 use lk_val::{FaultLine, Items, NoMemory, Text, is_among};
 use std::alloc::Global;
 

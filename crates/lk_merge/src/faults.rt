@@ -4,8 +4,9 @@ ghost use Rattle.lk_merge.specs.MergeFaults.{fault_at, declared_twice, refines_f
 
 use crate::by_name::Declared;
 use crate::contributors::{extends_of, is_declared};
-use crate::declaration::{Declaration, Kind};
+use crate::declaration::Declaration;
 use crate::objects::is_final;
+use lk_overlay::Kind;
 use lk_val::{FaultLine, NoMemory, Text};
 use std::alloc::Global;
 

@@ -8,10 +8,11 @@ ghost use Rattle.lk_merge.specs.Rows.{HasRows, row_of};
 
 use crate::by_name::Declared;
 use crate::contributors::{declaration_of, lists_bases, may_extend};
-use crate::declaration::{Declaration, Kind};
+use crate::declaration::Declaration;
 use crate::names::declared_names;
 use crate::project::Object;
 use crate::rows::{handed_rows, items_of};
+use lk_overlay::Kind;
 use lk_params::{copy_item, joined, last_named, parameters_of, scalar, words};
 use lk_read::{Item, Tree};
 use lk_val::{Items, NoMemory, Text};

@@ -4,7 +4,7 @@ ghost use Rattle.lk_merge.specs.Ranks.{rank_in, is_below, descends, do_descend};
 
 use crate::by_name::Declared;
 use crate::contributors::bases_of;
-use crate::declaration::Kind;
+use lk_overlay::Kind;
 use lk_val::{NoMemory, Text};
 use std::alloc::Global;
 

@@ -1,15 +1,14 @@
 ghost use Rattle.std.specs.Prelude.{◌≡◌, ℕ, List, IfOk, IfSome, OnOk, map, true};
 ghost use Rattle.lk_read.specs.declared.tree.Item.{Item as ItemValue};
 ghost use Rattle.lk_merge.specs.Objects.{contributors};
-ghost use Rattle.lk_merge.specs.Overlay.{merged};
+ghost use Rattle.lk_overlay.specs.Overlay.{merged};
 ghost use Rattle.lk_merge.specs.Ranks.{do_descend};
 ghost use Rattle.lk_merge.specs.Rows.{HasRows, row_of};
 
 use crate::by_name::Declared;
 use crate::contributors::{bases_of, contributors, handed_on_by_each, kept_by_each};
-use crate::declaration::Kind;
-use crate::merging::merged;
 use crate::ranks::{do_descend, rank_in, ranks};
+use lk_overlay::{Kind, merged};
 use lk_params::{copy_item, joined};
 use lk_read::Item;
 use lk_val::{Items, NoMemory, Text};
@@ -17,7 +16,7 @@ use std::alloc::Global;
 use std::collections::BTreeMap;
 
 /// The parameters of an object, from what its bases hand on.
-#[tactic(auto, using(crate::proofs::MergeLaws::merged_by_each))]
+#[tactic(auto, using(lk_overlay::proofs::MergeLaws::merged_by_each))]
 pub fn items_of(
     alloc: Global,
     all: &Declared<'_>,

@@ -5,12 +5,13 @@ ghost use Rattle.lk_merge.specs.Merging.{IsTested, merged_of, fault_of};
 
 use crate::by_name::Declared;
 use crate::cycles::find_cycle;
-use crate::declaration::{Kind, declarations};
+use crate::declaration::declarations;
 use crate::faults::{find_final, find_nowhere, find_twice};
 use crate::objects::objects;
 use crate::project::Merged;
 use crate::strays::stray_of;
 use lk_include::Project;
+use lk_overlay::Kind;
 use lk_val::{FaultLine, ModelFault, NoMemory};
 use std::alloc::Global;
 

@@ -5,8 +5,9 @@ use Rattle.std.specs.Ordering.{nat_cmp, is_eq}
 use Rattle.std.specs.Cmp.Lexicographic.{slice_cmp}
 use Rattle.std.specs.BTreeMap.{get}
 use Rattle.lk_merge.specs.ByName.{found_at}
-use Rattle.lk_merge.proofs.MapLaws.{put_new, not_there}
-use Rattle.lk_merge.proofs.OwnLaws.{seen, text_tied, tied_exact}
+use Rattle.lk_overlay.proofs.MapLaws.{put_new, not_there}
+use Rattle.lk_merge.proofs.OwnLaws.{seen}
+use Rattle.lk_overlay.proofs.TextLaws.{text_tied, tied_exact}
 use Rattle.lk_merge.proofs.by_name.add_declaration.Goals as goal
 
 pub returns : goal.returns

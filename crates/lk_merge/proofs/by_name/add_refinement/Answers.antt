@@ -5,8 +5,9 @@ use Rattle.std.specs.Cmp.Lexicographic.{slice_cmp}
 use Rattle.std.specs.BTreeMap.{get}
 use Rattle.std.proofs.lemmas.List.{map-append}
 use Rattle.lk_merge.specs.ByName.{own_at}
-use Rattle.lk_merge.proofs.MapLaws.{put_behind}
-use Rattle.lk_merge.proofs.OwnLaws.{listed_in, text_tied, tied_exact}
+use Rattle.lk_overlay.proofs.MapLaws.{put_behind}
+use Rattle.lk_merge.proofs.OwnLaws.{listed_in}
+use Rattle.lk_overlay.proofs.TextLaws.{text_tied, tied_exact}
 use Rattle.lk_merge.proofs.by_name.add_refinement.Goals as goal
 
 pub returns-in_ok-push-in-Some : goal.returns-in_ok-push-in-Some
