@@ -1,13 +1,10 @@
-ghost use Rattle.std.specs.Prelude.{◌≡◌, IfOk, true};
-ghost use Rattle.lk_types.specs.Dates.{are_literals_dated};
-
 use crate::explore::explore_of;
+use crate::plan::{model_of, plan_of};
 use crate::shown::Shown;
 use crate::tables::sources_of;
 use case_lines::CaseFault;
 use lk_exec::{ExecFault, visible};
-use lk_types::{Expr, Node};
-use lk_val::{Items, Text, Value};
+use lk_val::Text;
 use std::alloc::Global;
 
 /// The answer of a line: the rows, with `-` for a view that is null, or `many` where they are more than the cap.
@@ -31,31 +28,12 @@ fn cap_of(word: &str) -> Result<Option<u64>, CaseFault> {
 fn answer(alloc: Global, joins: &str, cap: Option<u64>, tables: &str) -> Result<Text, CaseFault> {
     let sources = sources_of(alloc, tables)?;
     let explore = explore_of(alloc, joins, tables.split('|').count())?;
-    let mut numbers = Items::new(alloc);
-    for number in 0..explore.joins.len() {
-        numbers.push(u32::try_from(number).or(Err(CaseFault::NoSuchCase))?)?;
-    }
-    let passes = always(alloc)?;
+    let plan = plan_of(alloc, explore.joins.len())?;
+    let model = model_of(alloc, explore)?;
     let mut shown = Shown::new(alloc);
-    let seen = visible(
-        alloc,
-        &explore,
-        &sources,
-        numbers.as_slice(),
-        &passes,
-        cap,
-        &mut shown,
-    );
-    match seen {
+    match visible(alloc, &model, &plan, &sources, cap, &mut shown) {
         Ok(_) => Ok(shown.into_text(alloc)?),
         Err(ExecFault::Many) => Ok(Text::from_str(alloc, "many")?),
         Err(ExecFault::NoMemory) => Err(CaseFault::NoMemory),
     }
-}
-
-// The condition that every row passes.
-fn always(alloc: Global) -> Result<Expr, CaseFault>
-    ensures { IfOk result (λ e. are_literals_dated e ≡ true) }
-{
-    Ok(Expr::leaf(alloc, Node::Literal(Value::Truth(true)))?)
 }

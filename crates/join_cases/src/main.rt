@@ -4,6 +4,7 @@
 
 mod case;
 mod explore;
+mod plan;
 mod shown;
 mod tables;
 
