@@ -144,7 +144,8 @@ drop_past (x ∷ xs) (suc n) past = drop_past xs n (omega (arith, past))
 pub parts_within : (x : Explore) (most n m : ℕ) (number : Calculation) → most ≡ suc n → (measure_at x m).number ≡ Some number → flat_map (parts_of_measure x n) (measures_in number) ≡ parts_of_measure x most m
 parts_within x most n m number is has = sym (ap (λ k. parts_of_measure x k m) is ∙ ap (or_parts m (parts_of_measure x n)) has)
 
-drop_next : {A : Type 0} (xs : List A) (k : ℕ) (d : A) → k < length xs → drop k xs ≡ slice_index_or xs k d ∷ drop (suc k) xs
+-- the items from a place on
+pub drop_next : {A : Type 0} (xs : List A) (k : ℕ) (d : A) → k < length xs → drop k xs ≡ slice_index_or xs k d ∷ drop (suc k) xs
 drop_next [] k d within = absurd (omega (arith, within))
 drop_next (x ∷ xs) zero d within = refl
 drop_next (x ∷ xs) (suc k) d within = drop_next xs k d (omega (arith, within))

@@ -1,4 +1,5 @@
 pub mod ComponentLaws
+pub mod StackedLaws
 pub mod AskingLaws
 pub mod RoundLaws
 pub mod PartSetLaws
