@@ -1,7 +1,4 @@
 pub mod Values
-pub mod Intervals
-pub mod Triggers
-pub mod Datagroups
 pub mod Joins
 pub mod PartFindings
 pub mod ExploreFilters

@@ -15,9 +15,9 @@ use Rattle.lk_types.specs.declared.schema.TableDef.{TableDef}
 use Rattle.lk_params.specs.Parameters.{last_named}
 use Rattle.lk_params.specs.Values.{code, scalar}
 use Rattle.lk_written.specs.SchemaNames.{column_number, table_number}
-use Rattle.lk_explore.specs.Datagroups.{interval_at, interval_in, trigger_at, watched_by}
-use Rattle.lk_explore.specs.Intervals.{count_of, interval_of, is_count, is_space, seconds_in}
-use Rattle.lk_explore.specs.Triggers.{aggregate_of, greatest_of, is_keyword, is_name, is_select, pieces_of, today_of, trigger_in, trigger_of, watched_in}
+use Rattle.lk_datagroup.specs.Datagroups.{interval_at, interval_in, trigger_at, watched_by}
+use Rattle.lk_datagroup.specs.Intervals.{count_of, interval_of, is_count, is_space, seconds_in}
+use Rattle.lk_datagroup.specs.Triggers.{aggregate_of, greatest_of, is_keyword, is_name, is_select, pieces_of, today_of, trigger_in, trigger_of, watched_in}
 use Rattle.lk_semantics.specs.Reading.{no_table, table_at}
 use Rattle.lk_semantics.specs.Resolved.{is_interval, is_numbered_datagroup, is_numbered_trigger}
 use Rattle.lk_semantics.proofs.EveryLaws.{both, first, second}

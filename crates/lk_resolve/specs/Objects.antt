@@ -9,7 +9,7 @@ use Rattle.lk_objects.specs.declared.explore.DeclaredExplore.{DeclaredExplore}
 use Rattle.lk_objects.specs.declared.view.Declared.{Declared}
 use Rattle.lk_objects.specs.declared.view.DeclaredView.{DeclaredView}
 use Rattle.lk_view.specs.Views.{IsView}
-use Rattle.lk_explore.specs.Datagroups.{datagroup_of}
+use Rattle.lk_datagroup.specs.Datagroups.{datagroup_of}
 use Rattle.lk_explore.specs.Explores.{IsExplore}
 
 -- each view is what its object says

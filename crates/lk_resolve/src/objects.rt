@@ -1,7 +1,8 @@
 ghost use Rattle.std.specs.Prelude.{◌≡◌, IfOk, map};
 ghost use Rattle.lk_resolve.specs.Objects.{AreExplores, AreViews, HasObjects, datagroup_read};
 
-use lk_explore::{read_datagroup, read_explore};
+use lk_datagroup::read_datagroup;
+use lk_explore::read_explore;
 use lk_merge::{Merged, Object};
 use lk_objects::{Declared, DeclaredDatagroup, DeclaredExplore, DeclaredView};
 use lk_types::Schema;

@@ -1,7 +1,7 @@
 use Rattle.std.proofs.Common.{◌≡◌, ◌++◌, drop}
 use Rattle.std.specs.List.{flat_map}
-use Rattle.lk_explore.specs.Triggers.{spaced}
-use Rattle.lk_explore.proofs.trigger.spaced_text.Given as goal
+use Rattle.lk_datagroup.specs.Triggers.{spaced}
+use Rattle.lk_datagroup.proofs.trigger.spaced_text.Given as goal
 
 abbrev pub invariant-loop-byte : goal.invariant-loop-byte
 invariant-loop-byte l =

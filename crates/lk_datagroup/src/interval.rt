@@ -2,7 +2,7 @@ ghost use Rattle.std.specs.Prelude.{◌≡◌, ◌≤◌, ◌&&◌, IfSome, nat_
 ghost use Rattle.std.specs.Option.{option_map};
 ghost use Rattle.std.specs.Char.{is_ascii_digit};
 ghost use Rattle.std.specs.List.{list_all};
-ghost use Rattle.lk_explore.specs.Intervals.{count_of, interval_of, seconds_in};
+ghost use Rattle.lk_datagroup.specs.Intervals.{count_of, interval_of, seconds_in};
 
 // The interval in seconds: a number from 1 to 1,000,000, one space, and a unit. (Looker, LookML reference: interval_trigger)
 pub(crate) fn interval_of(text: &str) -> Option<i64>

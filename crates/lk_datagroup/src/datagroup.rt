@@ -1,14 +1,13 @@
 ghost use Rattle.std.specs.Prelude.{◌≡◌, codes, IfOk, not, is_some, pos};
 ghost use Rattle.std.specs.List.{fold};
 ghost use Rattle.std.specs.Option.{option_and_then, option_map};
-ghost use Rattle.lk_params.specs.Findings.{soonest};
+ghost use Rattle.lk_params.specs.Findings.{sooner, soonest};
 ghost use Rattle.lk_params.specs.Parameters.{items_of};
 ghost use Rattle.lk_written.specs.Values.{is_wrong_at};
-ghost use Rattle.lk_explore.specs.Datagroups.{datagroup_findings, datagroup_of, interval_at, interval_in, trigger_at, watched_by};
+ghost use Rattle.lk_datagroup.specs.Datagroups.{datagroup_findings, datagroup_of, interval_at, interval_in, trigger_at, watched_by, wrong_at};
 
 use crate::interval::interval_of;
 use crate::trigger::trigger_of;
-use crate::values::add_wrong_at;
 use lk_objects::DeclaredDatagroup;
 use lk_params::{
     Finding, Findings, Order, Owner, code, find_unknown, last_named, parameters_of, scalar,
@@ -16,6 +15,7 @@ use lk_params::{
 use lk_read::{Item, Node, Tree};
 use lk_types::{Schema, Trigger};
 use lk_val::{NoMemory, Text};
+use lk_written::add_wrong;
 use std::alloc::Global;
 
 /// A datagroup, read from its parameters: what it watches and its interval in seconds, with the first fault that these show.
@@ -92,6 +92,20 @@ fn first_of_datagroup(
     let is_wrong = has_no_interval(items);
     add_wrong_at(alloc, name, "interval_trigger", is_wrong, &mut findings)?;
     Ok(findings.first)
+}
+
+// Adds that a parameter of the datagroup has a value outside the profile, where the test says so.
+fn add_wrong_at(
+    alloc: Global,
+    name: &str,
+    parameter: &str,
+    so: bool,
+    findings: &mut Findings,
+) -> Result<(), NoMemory>
+    ensures { IfOk result (λ _. findings.new.first
+        ≡ fold sooner findings.old.first (wrong_at name.now parameter.now so)) }
+{
+    add_wrong(alloc, Order::Object, name, parameter, so, findings)
 }
 
 fn watches_nothing(alloc: Global, schema: &Schema, items: &[Item]) -> Result<bool, NoMemory>

@@ -1,6 +1,6 @@
 ghost use Rattle.std.specs.Prelude.{◌≡◌, ◌++◌, ◌==◌, IfOk, map};
 ghost use Rattle.std.specs.List.{filter, flat_map, slice_split};
-ghost use Rattle.lk_explore.specs.Triggers.{aggregate_of, are_brackets, greatest_of, is_given, is_keyword, is_name, is_name_byte, is_select, is_white, pieces_of, spaced, table_in, today_of, trigger_in, trigger_of, watched_in};
+ghost use Rattle.lk_datagroup.specs.Triggers.{aggregate_of, are_brackets, greatest_of, is_given, is_keyword, is_name, is_name_byte, is_select, is_white, pieces_of, spaced, table_in, today_of, trigger_in, trigger_of, watched_in};
 
 use lk_types::{Schema, Trigger};
 use lk_val::NoMemory;

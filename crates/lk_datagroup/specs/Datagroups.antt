@@ -1,5 +1,5 @@
 -- What a datagroup says, and its first fault. (Looker, LookML reference: datagroup)
-use Rattle.std.specs.Prelude.{ℕ, pos, not, List, ◌++◌, Option, None, is_some, codes}
+use Rattle.std.specs.Prelude.{ℕ, Bool, pos, not, List, ◌++◌, Option, None, is_some, codes}
 use Rattle.std.specs.Option.{option_and_then, option_map}
 use Rattle.lk_read.specs.declared.tree.Item.{Item}
 use Rattle.lk_read.specs.declared.tree.Node.{Node}
@@ -14,9 +14,9 @@ use Rattle.lk_params.specs.Known.{block_findings}
 use Rattle.lk_params.specs.Parameters.{last_named}
 use Rattle.lk_params.specs.Values.{code, scalar}
 use Rattle.lk_written.specs.Values.{is_wrong_at}
-use Rattle.lk_explore.specs.Intervals.{interval_of}
-use Rattle.lk_explore.specs.Triggers.{trigger_of}
-use Rattle.lk_explore.specs.Values.{wrong_at}
+use Rattle.lk_written.specs.ValueFindings.{wrong}
+use Rattle.lk_datagroup.specs.Intervals.{interval_of}
+use Rattle.lk_datagroup.specs.Triggers.{trigger_of}
 
 -- what the code of a trigger watches
 abbrev pub watched_by : Schema → Node → Option Trigger
@@ -31,6 +31,10 @@ trigger_at schema items = option_and_then (λ item. watched_by schema item.value
 
 abbrev pub interval_at : List Item → Option ℕ
 interval_at items = option_and_then (λ item. interval_in item.value) (last_named (codes "interval_trigger") items)
+
+-- a value outside the profile at a parameter of the datagroup
+abbrev pub wrong_at : List ℕ → List ℕ → Bool → List Finding
+wrong_at name parameter so = wrong order.Object name parameter parameter so
 
 -- a parameter that may not stand there or not again, Liquid, and a trigger or an interval outside the profile; an interval
 -- does not excuse a wrong trigger beside it

@@ -1,7 +1,7 @@
 use Rattle.std.proofs.Common.{◌≡◌, ◌++◌, map, drop}
 use Rattle.std.specs.List.{filter}
-use Rattle.lk_explore.specs.Triggers.{is_given}
-use Rattle.lk_explore.proofs.trigger.pieces_of.Given as goal
+use Rattle.lk_datagroup.specs.Triggers.{is_given}
+use Rattle.lk_datagroup.proofs.trigger.pieces_of.Given as goal
 
 abbrev pub invariant-loop-piece : goal.invariant-loop-piece
 invariant-loop-piece l =
