@@ -1,7 +1,7 @@
 # For what is tried on a store of loads in a file: a program that saves loads. Sourced; gives `work`, a folder that goes when
 # the script ends, and PROGRAM, the program, which is built there and proved first, unless PROGRAM names one that was built of
 # the source below.
-crates='lk_val lk_io lk_keep'
+crates='lk_val lk_io lk_ledger lk_keep'
 uses='lk_val lk_io lk_keep thiserror sqlite'
 . "$(dirname "$0")/workspace.sh"
 cat >"$work/crates/timing/src/main.rt" <<'PROGRAM'

@@ -8,7 +8,7 @@ use Rattle.lk_table.specs.Contents.{Content}
 use Rattle.lk_edition.specs.declared.fault.OpenFault.{OpenFault}
 use Rattle.lk_types.specs.declared.model.Model.{Model}
 use Rattle.lk_schema.specs.declared.users.Users.{Users}
-use Rattle.lk_keep.specs.declared.kept.Kept.{Kept}
+use Rattle.lk_ledger.specs.declared.kept.Kept.{Kept}
 use Rattle.lk_edition.specs.Offices.{Begins, IsOpening}
 use Rattle.lk_edition.specs.Openings.{Seed, is_no_memory, standing_opened}
 use Rattle.lk_edition.specs.States.{Standing}

@@ -11,8 +11,8 @@ use Rattle.lk_table.specs.declared.fault.BatchFault.{BatchFault}
 use Rattle.lk_table.specs.declared.fault.BatchFault.TheVariants as batch
 use Rattle.lk_load.specs.Loading.{table_loaded}
 use Rattle.lk_load.specs.declared.load.LoadedTable.{LoadedTable}
-use Rattle.lk_keep.specs.declared.command.Command.{Command}
-use Rattle.lk_keep.specs.declared.kept.KeptId.{KeptId}
+use Rattle.lk_ledger.specs.declared.command.Command.{Command}
+use Rattle.lk_ledger.specs.declared.kept.KeptId.{KeptId}
 use Rattle.lk_edition.specs.Limits.{is_over}
 use Rattle.lk_edition.specs.Replies.{load_reply}
 use Rattle.lk_edition.specs.States.{Standing, State}

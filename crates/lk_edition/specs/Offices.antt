@@ -6,7 +6,7 @@ use Rattle.lk_io.specs.Causes.{Rose}
 use Rattle.lk_types.specs.declared.model.Model.{Model}
 use Rattle.lk_types.specs.declared.schema.TableDef.{TableDef}
 use Rattle.lk_schema.specs.declared.users.Users.{Users}
-use Rattle.lk_keep.specs.declared.kept.Kept.{Kept}
+use Rattle.lk_ledger.specs.declared.kept.Kept.{Kept}
 use Rattle.lk_edition.specs.Loads.{load_planned}
 use Rattle.lk_edition.specs.Openings.{Seed, standing_opened}
 use Rattle.lk_edition.specs.Plans.{Planned}

@@ -9,8 +9,8 @@ use Rattle.lk_table.specs.declared.fault.BatchFault.{BatchFault}
 use Rattle.lk_table.specs.declared.fault.BatchFault.TheVariants as batch
 use Rattle.lk_load.specs.Loading.{table_loaded}
 use Rattle.lk_load.specs.declared.load.LoadedTable.{LoadedTable}
-use Rattle.lk_keep.specs.declared.kept.Chunk.{Chunk}
-use Rattle.lk_keep.specs.declared.kept.Kept.{Kept}
+use Rattle.lk_ledger.specs.declared.kept.Chunk.{Chunk}
+use Rattle.lk_ledger.specs.declared.kept.Kept.{Kept}
 use Rattle.lk_edition.specs.Limits.{is_over}
 use Rattle.lk_edition.specs.Loads.{content_at, def_at, table_named}
 use Rattle.lk_edition.specs.States.{Standing, State}

@@ -1,6 +1,6 @@
 -- What is to come of an accepted load. (lookd)
 use Rattle.lk_types.specs.declared.answer.Reply.{Reply}
-use Rattle.lk_keep.specs.declared.command.Command.{Command}
+use Rattle.lk_ledger.specs.declared.command.Command.{Command}
 use Rattle.lk_edition.specs.States.{Standing}
 
 -- the next edition, what the store is told, and the reply

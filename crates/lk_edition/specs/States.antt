@@ -6,7 +6,7 @@ use Rattle.lk_types.specs.declared.schema.TableDef.{TableDef}
 use Rattle.lk_schema.specs.declared.users.Users.{Users}
 use Rattle.lk_table.specs.Contents.{Content}
 use Rattle.lk_load.specs.Loading.{IsTable}
-use Rattle.lk_keep.specs.declared.kept.KeptId.{KeptId}
+use Rattle.lk_ledger.specs.declared.kept.KeptId.{KeptId}
 
 -- the number of a state, what the tables of the schema hold by number, and the loads that it keeps, with what their replies say
 pub record State : Type 0 where

@@ -7,7 +7,7 @@ ghost use Rattle.lk_edition.specs.Standings.{IsAnswerable, IsStanding};
 ghost use Rattle.lk_edition.specs.States.{AreTables, sources_at};
 
 use crate::tables::share_tables;
-use lk_keep::KeptId;
+use lk_ledger::KeptId;
 use lk_schema::Users;
 use lk_table::{StoredTables, TableSet, TableVersion};
 use lk_types::Model as Project;

@@ -1,6 +1,6 @@
 ghost use Rattle.std.specs.Prelude.{◌≡◌, List, length};
 ghost use Rattle.lk_edition.specs.Limits.{are_large, is_over};
-ghost use Rattle.lk_keep.specs.declared.kept.KeptId.{KeptId};
+ghost use Rattle.lk_ledger.specs.declared.kept.KeptId.{KeptId};
 
 use lk_table::{TableVersion, size};
 

@@ -10,17 +10,14 @@ use crate::fault::{LoadFault, load_fault};
 use crate::limits::is_over;
 use crate::plan::{LoadPlan, Pending};
 use crate::replies::load_reply;
-use crate::tables::{load_into, set_table, share_tables, table_named};
-use lk_keep::{Command, KeptId};
+use crate::tables::{compacted, load_into, set_table, share_tables, table_named};
+use lk_ledger::{Command, KeptId};
 use lk_load::LoadedTable;
 use lk_schema::{Users, attribute_of};
-use lk_table::{TableVersion, compact};
+use lk_table::TableVersion;
 use lk_val::{Items, NoMemory, Text};
 use std::alloc::Global;
 use std::sync::Arc;
-
-// The most blocks that a table's rows stand in.
-const BLOCK_LIMIT: usize = 64;
 
 /// What a load comes to on an edition.
 pub(crate) fn plan_load(
@@ -158,14 +155,4 @@ fn kept_id(alloc: Global, call: &LoadCall, number: u64, rows: u64) -> Result<Kep
         number,
         rows,
     })
-}
-
-// The same rows, in one block where they stood in more than 64.
-fn compacted(alloc: Global, version: TableVersion) -> Result<TableVersion, NoMemory>
-    ensures { IfOk result (λ compacted. compacted ≡ version) }
-{
-    if version.blocks() <= BLOCK_LIMIT {
-        return Ok(version);
-    }
-    compact(alloc, &version)
 }

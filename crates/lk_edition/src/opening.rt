@@ -11,8 +11,8 @@ ghost use Rattle.lk_edition.specs.declared.fault.OpenFault.TheVariants as fault;
 use crate::edition::{Base, Edition};
 use crate::fault::OpenFault;
 use crate::limits::is_over;
-use crate::tables::{load_into, set_table, table_named};
-use lk_keep::{Chunk, Kept, KeptId};
+use crate::tables::{compacted, load_into, set_table, table_named};
+use lk_ledger::{Chunk, Kept, KeptId};
 use lk_load::loads_keep_tables_valid;
 use lk_schema::Users;
 use lk_table::{BatchFault, TableVersion};
@@ -162,7 +162,10 @@ fn append_at(
         chunk.body.as_slice(),
         false,
     ) {
-        Ok(loaded) => Ok(set_table(defs, tables, number, loaded.version)),
+        Ok(loaded) => {
+            let version = compacted(alloc, loaded.version)?;
+            Ok(set_table(defs, tables, number, version))
+        }
         Err(BatchFault::NoMemory) => Err(OpenFault::NoMemory),
         Err(fault) => Err(OpenFault::Unread(chunk.table.copy(alloc)?, fault)),
     }

@@ -2,7 +2,7 @@ ghost use Rattle.std.specs.Prelude.{◌≡◌, IfOk};
 ghost use Rattle.std.specs.Arc.{arc_value};
 
 use crate::edition::Edition;
-use lk_keep::Command;
+use lk_ledger::Command;
 use lk_types::Reply;
 use lk_val::NoMemory;
 use std::marker::Model;

@@ -8,10 +8,13 @@ ghost use Rattle.lk_edition.specs.Loads.{content_at, def_at, table_named};
 ghost use Rattle.lk_edition.specs.States.{AreTables};
 
 use lk_load::{LoadedTable, load_text, loads_keep_tables_valid};
-use lk_table::{BatchFault, TableVersion};
+use lk_table::{BatchFault, TableVersion, compact};
 use lk_types::TableDef;
 use lk_val::{Items, NoMemory, Text};
 use std::alloc::Global;
+
+// The most blocks that a table's rows stand in.
+const BLOCK_LIMIT: usize = 64;
 
 /// The number of the table of a name.
 pub(crate) fn table_named(defs: &[TableDef], name: &Text) -> Option<usize>
@@ -54,6 +57,16 @@ pub(crate) fn load_into(
     loads_keep_tables_valid();
     let (def, version) = table_in(defs, tables, number);
     load_text(alloc, def, version, text, replace)
+}
+
+/// The same rows, in one block where they stood in more than 64.
+pub(crate) fn compacted(alloc: Global, version: TableVersion) -> Result<TableVersion, NoMemory>
+    ensures { IfOk result (λ compacted. compacted ≡ version) }
+{
+    if version.blocks() <= BLOCK_LIMIT {
+        return Ok(version);
+    }
+    compact(alloc, &version)
 }
 
 /// The tables with another version of one of them.

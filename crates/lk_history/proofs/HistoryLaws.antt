@@ -8,9 +8,9 @@ use Rattle.lk_types.specs.declared.answer.Reply.{Reply}
 use Rattle.lk_types.specs.declared.model.Model.{Model}
 use Rattle.lk_schema.specs.declared.users.Users.{Users}
 use Rattle.lk_table.specs.BatchTexts.{HasNamedColumns}
-use Rattle.lk_keep.specs.Saving.{Save, after_save, after_saves, load}
-use Rattle.lk_keep.specs.declared.command.Command.{Command}
-use Rattle.lk_keep.specs.declared.kept.Kept.{Kept}
+use Rattle.lk_ledger.specs.Saving.{Save, after_save, after_saves, load}
+use Rattle.lk_ledger.specs.declared.command.Command.{Command}
+use Rattle.lk_ledger.specs.declared.kept.Kept.{Kept}
 use Rattle.lk_edition.specs.Loads.{load_planned}
 use Rattle.lk_edition.specs.Openings.{standing_opened}
 use Rattle.lk_edition.specs.States.{Standing}

@@ -1,8 +1,8 @@
 -- The loads of a session. (lookd)
 use Rattle.std.specs.Prelude.{◌≡◌, List, map}
 use Rattle.std.specs.Option.{option_map}
-use Rattle.lk_keep.specs.Saving.{after_saves, load}
-use Rattle.lk_keep.specs.declared.command.Command.{Command}
+use Rattle.lk_ledger.specs.Saving.{after_saves, load}
+use Rattle.lk_ledger.specs.declared.command.Command.{Command}
 use Rattle.lk_edition.specs.declared.call.LoadCall.{LoadCall}
 use Rattle.lk_kept.specs.Accepted.{AreAccepted}
 use Rattle.lk_session.specs.Servers.{Server}

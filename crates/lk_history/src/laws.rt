@@ -1,7 +1,7 @@
 ghost use Rattle.std.specs.Prelude.{◌≡◌, ℕ, List, [], IfSome, Ok, Some};
 ghost use Rattle.std.specs.List.{All};
 ghost use Rattle.lk_table.specs.BatchTexts.{HasNamedColumns};
-ghost use Rattle.lk_keep.specs.declared.kept.Kept.{Kept};
+ghost use Rattle.lk_ledger.specs.declared.kept.Kept.{Kept};
 ghost use Rattle.lk_edition.specs.Openings.{standing_opened};
 ghost use Rattle.lk_session.specs.Runs.{IsRun};
 ghost use Rattle.lk_session.specs.Servers.{Sent, Server};

@@ -1,5 +1,2 @@
-pub mod Causes
-pub mod Memory
 pub mod Saved
-pub mod Saving
 pub mod System

@@ -1,7 +1,7 @@
 -- What saves leave in a store.
 use Rattle.std.specs.Prelude.{ℕ, Bool, true, false, nat_eq, nat_lt, nat_le, ◌&&◌, if◌then◌else◌, ◌≡◌, List, [], ◌∷◌, length, IsTrue}
-use Rattle.lk_keep.specs.declared.kept.Kept.{Kept}
-use Rattle.lk_keep.specs.declared.kept.KeptId.{KeptId}
+use Rattle.lk_ledger.specs.declared.kept.Kept.{Kept}
+use Rattle.lk_ledger.specs.declared.kept.KeptId.{KeptId}
 
 -- the numbers of the loads rise, from above the one before to the last save's
 abbrev pub are_rising : ℕ → ℕ → List KeptId → Bool

@@ -1,11 +1,7 @@
 ghost use Rattle.lk_keep.specs.System.{told_by, handed_by, faults_of};
 
-use crate::command::Command;
-use crate::faults::KeepFault;
-use crate::keeper::Keeper;
-use crate::kept::Kept;
-use crate::mem_keeper::MemKeeper;
 use crate::sql_keeper::SqlKeeper;
+use lk_ledger::{Command, KeepFault, Keeper, Kept, MemKeeper};
 use std::alloc::Global;
 
 /// The store of a run: in memory, which tells what it holds, or in a file.

@@ -1,20 +1,19 @@
 ghost use Rattle.std.specs.Prelude.{◌≡◌, None, IfOk};
-ghost use Rattle.lk_keep.specs.Causes.{HasKeepCause};
+ghost use Rattle.lk_ledger.specs.Causes.{HasKeepCause};
 ghost use Rattle.lk_keep.specs.Saved.{IsSaved};
 ghost use Rattle.lk_keep.specs.System.{sql_faults};
 
 mod id;
 mod reading;
+mod refusal;
 mod saves;
 mod writing;
 
-use crate::command::Command;
-use crate::faults::KeepFault;
-use crate::keeper::Keeper;
-use crate::kept::Kept;
+use lk_ledger::{Command, KeepFault, Keeper, Kept};
 use lk_val::Text;
 use reading::read_store;
-use sqlite::{Connection, Error, ErrorCode, File, FileStore};
+use refusal::Refusal;
+use sqlite::{Connection, File, FileStore};
 use std::alloc::Global;
 use std::rt::HostRuntime;
 use writing::{write_check, write_load};
@@ -30,17 +29,8 @@ pub struct SqlKeeper {
     faults: u64,
 }
 
-impl From<Error> for KeepFault {
-    fn from(error: Error) -> KeepFault {
-        match error {
-            Error::SqliteFailure(ErrorCode::OutOfMemory) => KeepFault::NoMemory,
-            _ => KeepFault::Failed,
-        }
-    }
-}
-
 // The file at a path, which is made where there is none.
-fn open_file(rt: &HostRuntime, path: &str) -> Result<Connection<FileStore<File>>, KeepFault> {
+fn open_file(rt: &HostRuntime, path: &str) -> Result<Connection<FileStore<File>>, Refusal> {
     Ok(Connection::open(rt, path)?)
 }
 
@@ -65,7 +55,7 @@ impl SqlKeeper {
     }
 
     // The open file, which is put back where the call succeeds.
-    fn take_opened(&mut self) -> Result<Connection<FileStore<File>>, KeepFault>
+    fn take_opened(&mut self) -> Result<Connection<FileStore<File>>, Refusal>
         ensures same { sql_faults self.new ≡ sql_faults self.old }
     {
         match self.opened.take() {

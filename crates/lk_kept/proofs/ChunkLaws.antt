@@ -12,8 +12,8 @@ use Rattle.lk_table.specs.Contents.{Content, content_of}
 use Rattle.lk_table.specs.declared.fault.BatchFault.{BatchFault}
 use Rattle.lk_load.specs.Loading.{table_loaded}
 use Rattle.lk_load.specs.declared.load.LoadedTable.{LoadedTable}
-use Rattle.lk_keep.specs.Saving.{other_chunks}
-use Rattle.lk_keep.specs.declared.kept.Chunk.{Chunk}
+use Rattle.lk_ledger.specs.Saving.{other_chunks}
+use Rattle.lk_ledger.specs.declared.kept.Chunk.{Chunk}
 use Rattle.lk_edition.specs.Loads.{content_at, def_at, no_table, nothing_held, table_named}
 use Rattle.lk_edition.specs.Openings.{all_appended, appended, appended_to, empty_tables, or_unread}
 use Rattle.lk_edition.specs.declared.fault.OpenFault.{OpenFault}

@@ -8,9 +8,9 @@ use Rattle.std.proofs.lemmas.List.Elements.{All-cons, All-head, All-nil, All-tai
 use Rattle.std.proofs.lemmas.List.Folds.{find-append}
 use Rattle.std.proofs.lemmas.Slice.Eq.{bytes_eq-Decides}
 use Rattle.lk_val.specs.Texts.{are_different, is_same_text}
-use Rattle.lk_keep.specs.Saving.{id_of}
-use Rattle.lk_keep.specs.declared.command.Command.{Command}
-use Rattle.lk_keep.specs.declared.kept.KeptId.{KeptId}
+use Rattle.lk_ledger.specs.Saving.{id_of}
+use Rattle.lk_ledger.specs.declared.command.Command.{Command}
+use Rattle.lk_ledger.specs.declared.kept.KeptId.{KeptId}
 use Rattle.lk_edition.specs.Loads.{kept_id, kept_load}
 use Rattle.lk_edition.specs.Plans.{Planned}
 use Rattle.lk_edition.specs.States.{Standing}

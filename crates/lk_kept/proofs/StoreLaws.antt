@@ -12,10 +12,10 @@ use Rattle.lk_table.specs.Contents.{Content, content_of}
 use Rattle.lk_table.specs.Loads.{kept_rows}
 use Rattle.lk_load.specs.Loading.{table_loaded}
 use Rattle.lk_load.specs.declared.load.LoadedTable.{LoadedTable}
-use Rattle.lk_keep.specs.Saving.{after_load, after_saves, load, other_chunks}
-use Rattle.lk_keep.specs.declared.command.Command.{Command}
-use Rattle.lk_keep.specs.declared.kept.Chunk.{Chunk}
-use Rattle.lk_keep.specs.declared.kept.Kept.{Kept}
+use Rattle.lk_ledger.specs.Saving.{after_load, after_saves, load, other_chunks}
+use Rattle.lk_ledger.specs.declared.command.Command.{Command}
+use Rattle.lk_ledger.specs.declared.kept.Chunk.{Chunk}
+use Rattle.lk_ledger.specs.declared.kept.Kept.{Kept}
 use Rattle.lk_edition.specs.Limits.{is_over}
 use Rattle.lk_edition.specs.Loads.{content_at, def_at, no_table, nothing_held, table_named}
 use Rattle.lk_edition.specs.Openings.{all_appended, appended, appended_to, empty_tables, or_unread, standing_opened, standing_over, state_over}

@@ -1,6 +1,6 @@
 -- Loads that a server accepts one after the other. (lookd)
 use Rattle.std.specs.Prelude.{◌≡◌, List, [], ◌∷◌, Ok}
-use Rattle.lk_keep.specs.declared.command.Command.{Command}
+use Rattle.lk_ledger.specs.declared.command.Command.{Command}
 use Rattle.lk_edition.specs.Loads.{load_planned}
 use Rattle.lk_edition.specs.Plans.{Planned}
 use Rattle.lk_edition.specs.States.{Standing}

@@ -4,7 +4,7 @@ use Rattle.std.specs.Prelude.{IfErr, IfSome, Option, Some, None, Result, Ok, Err
 use Rattle.lk_io.specs.declared.files.File.{File}
 use Rattle.lk_include.specs.declared.project.ProjectFault.{ProjectFault}
 use Rattle.lk_include.specs.declared.project.ProjectFault.TheVariants as project
-use Rattle.lk_keep.specs.declared.kept.Kept.{Kept}
+use Rattle.lk_ledger.specs.declared.kept.Kept.{Kept}
 use Rattle.lk_resolve.specs.declared.loading.Loaded.{Loaded}
 use Rattle.lk_seed.specs.Seeds.{seeds_of}
 use Rattle.lk_seed.specs.Seeds as seeds

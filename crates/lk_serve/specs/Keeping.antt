@@ -4,7 +4,7 @@ use Rattle.std.specs.List.{list_any}
 use Rattle.lk_val.specs.Texts.{is_same_text}
 use Rattle.lk_keep.specs.declared.held.Held.{Held}
 use Rattle.lk_keep.specs.declared.held.Held.TheVariants as held
-use Rattle.lk_keep.specs.declared.kept.Kept.{Kept}
+use Rattle.lk_ledger.specs.declared.kept.Kept.{Kept}
 use Rattle.lk_serve.specs.Words.{has_dash}
 
 -- 1 to 16, in decimal without a sign or a leading zero

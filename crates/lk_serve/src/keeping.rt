@@ -1,9 +1,10 @@
 ghost use Rattle.std.specs.Prelude.{◌≡◌, [], IfOk};
-ghost use Rattle.lk_keep.specs.Memory.{no_calls};
+ghost use Rattle.lk_ledger.specs.Memory.{no_calls};
 ghost use Rattle.lk_serve.specs.Keeping.{IsKeeperFor, asks_for_a_server, empty_kept, is_number_of_workers};
 
 use crate::words::have_dash;
-use lk_keep::{Held, Kept, MemKeeper, SqlKeeper};
+use lk_keep::{Held, SqlKeeper};
+use lk_ledger::{Kept, MemKeeper};
 use lk_val::{Items, NoMemory, Text};
 use std::alloc::Global;
 

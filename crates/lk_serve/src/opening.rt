@@ -22,7 +22,7 @@ use crate::replies::{Reply, fault_found, unanswered};
 use lk_edition::{Edition, Office, OpenFault, Unopened};
 use lk_include::ProjectFault;
 use lk_io::{Clock, Files};
-use lk_keep::Keeper;
+use lk_ledger::Keeper;
 use lk_resolve::{Loaded, load};
 use lk_seed::{read_seeds, seed_fault};
 use lk_table::BatchFault;

@@ -16,7 +16,7 @@ use crate::opening::{Unserved, Why, open_office};
 use crate::serve::write;
 use lk_edition::Office;
 use lk_io::{Clock, Files, Sink, Source};
-use lk_keep::Keeper;
+use lk_ledger::Keeper;
 use lk_session::{Ended, session};
 use std::alloc::Global;
 

@@ -21,7 +21,7 @@ use crate::script::{Ran, script};
 use crate::stops::Stop;
 use crate::words::{Command, is_script, read_words};
 use lk_io::{Clock, Files, Sink, Source};
-use lk_keep::Keeper;
+use lk_ledger::Keeper;
 use lk_val::Text;
 use std::alloc::Global;
 

@@ -5,8 +5,8 @@ use Rattle.std.specs.Option.{option_map}
 use Rattle.lk_io.specs.Moments.{later}
 use Rattle.lk_types.specs.Dates.{IsMomentInYears}
 use Rattle.lk_types.specs.declared.answer.Reply.{Reply}
-use Rattle.lk_keep.specs.Saving.{after_saves}
-use Rattle.lk_keep.specs.declared.kept.Kept.{Kept}
+use Rattle.lk_ledger.specs.Saving.{after_saves}
+use Rattle.lk_ledger.specs.declared.kept.Kept.{Kept}
 use Rattle.lk_edition.specs.States.{Standing}
 use Rattle.lk_http.specs.Answers.{IsAnswer, IsDropped}
 use Rattle.lk_http.specs.Items.{IsNext, Item, ends}

@@ -5,8 +5,8 @@ use Rattle.lk_io.specs.Causes.{Rose}
 use Rattle.lk_io.specs.Moments.{later}
 use Rattle.lk_types.specs.Dates.{IsMomentInYears}
 use Rattle.lk_types.specs.declared.answer.Reply.{Reply}
-use Rattle.lk_keep.specs.Saving.{Save, after_saves, load}
-use Rattle.lk_keep.specs.declared.kept.Kept.{Kept}
+use Rattle.lk_ledger.specs.Saving.{Save, after_saves, load}
+use Rattle.lk_ledger.specs.declared.kept.Kept.{Kept}
 use Rattle.lk_ask.specs.Asks.{is_no_memory}
 use Rattle.lk_ask.specs.declared.fault.AskFault.{AskFault}
 use Rattle.lk_reply.specs.Statuses.{refusal_reply}

@@ -18,7 +18,7 @@ use crate::serving::serve;
 use lk_edition::Office;
 use lk_http::{Conn, Got, HttpFault, Request, read_request, write_memory, write_reply};
 use lk_io::{Clock, Failed, Link};
-use lk_keep::Keeper;
+use lk_ledger::Keeper;
 use lk_types::Reply;
 use lk_val::{Bytes, NoMemory};
 use std::alloc::Global;

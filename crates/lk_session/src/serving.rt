@@ -14,7 +14,7 @@ use lk_edition::{
     reply_unsaved,
 };
 use lk_http::{Request, Target};
-use lk_keep::{KeepFault, Keeper};
+use lk_ledger::{KeepFault, Keeper};
 use lk_reply::reply_refusal;
 use lk_types::Reply;
 use lk_val::{Bytes, NoMemory, Text};

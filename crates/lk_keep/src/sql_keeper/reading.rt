@@ -2,10 +2,10 @@
 ghost use Rattle.std.specs.Prelude.{◌≡◌, Ok, Err, IfOk, if◌then◌else◌, length};
 ghost use Rattle.lk_keep.specs.Saved.{IsSaved, are_saves};
 
-use crate::faults::KeepFault;
-use crate::kept::{Chunk, Kept, KeptId};
 use crate::sql_keeper::id::is_id;
+use crate::sql_keeper::refusal::Refusal;
 use crate::sql_keeper::saves::are_saves;
+use lk_ledger::{Chunk, Kept, KeptId};
 use lk_val::{Bytes, Items, Text};
 use sqlite::{Alter, Connection, Row};
 use std::alloc::Global;
@@ -37,7 +37,7 @@ impl Batches {
     }
 
     // Adds that of a row.
-    fn add(&mut self, row: &Row) -> Result<(), KeepFault>
+    fn add(&mut self, row: &Row) -> Result<(), Refusal>
         ensures { IfOk result (λ _. length self.old.numbers ≡ length self.old.chunks
             → length self.new.numbers ≡ length self.new.chunks) }
     {
@@ -51,7 +51,7 @@ impl Batches {
 pub(crate) fn read_store<S: Alter>(
     alloc: Global,
     connection: &mut Connection<S>,
-) -> Result<Kept, KeepFault>
+) -> Result<Kept, Refusal>
     ensures saved { IfOk result IsSaved }
 {
     if is_new(connection)? {
@@ -64,14 +64,14 @@ pub(crate) fn read_store<S: Alter>(
 }
 
 // What is handed over, unless saves cannot have left it.
-fn kept_of(number: u64, batches: Batches, ids: Items<KeptId>) -> Result<Kept, KeepFault>
+fn kept_of(number: u64, batches: Batches, ids: Items<KeptId>) -> Result<Kept, Refusal>
     requires { length batches.numbers ≡ length batches.chunks }
     ensures value { result ≡ (if are_saves number ids batches.numbers
-        then Ok (record { number = number; chunks = batches.chunks; ids = ids }) else Err KeepFault.Failed) }
+        then Ok (record { number = number; chunks = batches.chunks; ids = ids }) else Err Refusal.Failed) }
     ensures saved { IfOk result IsSaved }
 {
     if !are_saves(number, ids.as_slice(), batches.numbers.as_slice()) {
-        return Err(KeepFault::Failed);
+        return Err(Refusal::Failed);
     }
     Ok(Kept {
         number,
@@ -81,45 +81,42 @@ fn kept_of(number: u64, batches: Batches, ids: Items<KeptId>) -> Result<Kept, Ke
 }
 
 // Whether the store has no table.
-fn is_new<S: Alter>(connection: &mut Connection<S>) -> Result<bool, KeepFault> {
+fn is_new<S: Alter>(connection: &mut Connection<S>) -> Result<bool, Refusal> {
     let row = connection.query_row("SELECT count(*) FROM sqlite_schema", &[])?;
     let objects: i64 = row.get(0)?;
     Ok(objects == 0)
 }
 
 // Makes the tables, with the number 0, all or none.
-fn make_tables<S: Alter>(connection: &mut Connection<S>) -> Result<(), KeepFault> {
+fn make_tables<S: Alter>(connection: &mut Connection<S>) -> Result<(), Refusal> {
     if !connection.is_autocommit() {
-        return Err(KeepFault::Failed);
+        return Err(Refusal::Failed);
     }
     let mut transaction = connection.transaction();
     transaction.execute_batch(TABLES)?;
     Ok(transaction.commit()?)
 }
 
-fn read_number<S: Alter>(connection: &mut Connection<S>) -> Result<u64, KeepFault> {
+fn read_number<S: Alter>(connection: &mut Connection<S>) -> Result<u64, Refusal> {
     let rows = connection.query_all("SELECT one, version, number FROM state", &[])?;
     number_of(rows.as_slice())
 }
 
 // The number in the one row of `state`.
-fn number_of(rows: &[Row]) -> Result<u64, KeepFault> {
+fn number_of(rows: &[Row]) -> Result<u64, Refusal> {
     let [row] = rows else {
-        return Err(KeepFault::Failed);
+        return Err(Refusal::Failed);
     };
     let one: i64 = row.get(0)?;
     let version: i64 = row.get(1)?;
     if one != 1 || version != VERSION {
-        return Err(KeepFault::Failed);
+        return Err(Refusal::Failed);
     }
     Ok(row.get(2)?)
 }
 
 // The rows are read one at a time, so that no body is in memory twice.
-fn read_batches<S: Alter>(
-    alloc: Global,
-    connection: &mut Connection<S>,
-) -> Result<Batches, KeepFault>
+fn read_batches<S: Alter>(alloc: Global, connection: &mut Connection<S>) -> Result<Batches, Refusal>
     ensures { IfOk result (λ batches. length batches.numbers ≡ length batches.chunks) }
 {
     let mut batches = Batches::none(alloc);
@@ -133,10 +130,10 @@ fn read_batches<S: Alter>(
         };
         batches.add(row)?;
     }
-    Err(KeepFault::Failed)
+    Err(Refusal::Failed)
 }
 
-fn chunk_of(row: &Row) -> Result<Chunk, KeepFault> {
+fn chunk_of(row: &Row) -> Result<Chunk, Refusal> {
     let table: String = row.get(1)?;
     let body: Vec<u8> = row.get(2)?;
     Ok(Chunk {
@@ -148,7 +145,7 @@ fn chunk_of(row: &Row) -> Result<Chunk, KeepFault> {
 fn read_ids<S: Alter>(
     alloc: Global,
     connection: &mut Connection<S>,
-) -> Result<Items<KeptId>, KeepFault> {
+) -> Result<Items<KeptId>, Refusal> {
     let rows = connection.query_all("SELECT id, number, rows FROM ids ORDER BY number", &[])?;
     let mut ids = Items::new(alloc);
     for row in rows.as_slice() {
@@ -157,10 +154,10 @@ fn read_ids<S: Alter>(
     Ok(ids)
 }
 
-fn id_of(row: &Row) -> Result<KeptId, KeepFault> {
+fn id_of(row: &Row) -> Result<KeptId, Refusal> {
     let id: String = row.get(0)?;
     if !is_id(id.as_bytes()) {
-        return Err(KeepFault::Failed);
+        return Err(Refusal::Failed);
     }
     Ok(KeptId {
         id: Text::from_string(id),

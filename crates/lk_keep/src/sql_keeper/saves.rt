@@ -2,7 +2,7 @@
 ghost use Rattle.std.specs.Prelude.{◌≡◌};
 ghost use Rattle.lk_keep.specs.Saved.{are_batches_of, are_rising, are_saves};
 
-use crate::kept::KeptId;
+use lk_ledger::KeptId;
 
 // Whether the loads have rising numbers from 1 to the last save's, and the batches some of these.
 pub(crate) fn are_saves(last: u64, ids: &[KeptId], numbers: &[u64]) -> bool

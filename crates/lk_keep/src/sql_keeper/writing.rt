@@ -1,15 +1,15 @@
 // Saves into the tables of a store, each of them one transaction, which is undone where it is dropped.
-use crate::command::Command;
-use crate::faults::KeepFault;
 use crate::sql_keeper::id::is_id;
+use crate::sql_keeper::refusal::Refusal;
+use lk_ledger::Command;
 use sqlite::{Alter, Connection, Transaction, params};
 
 pub(crate) fn write_load<S: Alter>(
     connection: &mut Connection<S>,
     command: &Command,
-) -> Result<(), KeepFault> {
+) -> Result<(), Refusal> {
     if !connection.is_autocommit() {
-        return Err(KeepFault::Failed);
+        return Err(Refusal::Failed);
     }
     let mut transaction = connection.transaction();
     write_chunk(&mut transaction, command)?;
@@ -21,9 +21,9 @@ pub(crate) fn write_load<S: Alter>(
 pub(crate) fn write_check<S: Alter>(
     connection: &mut Connection<S>,
     number: u64,
-) -> Result<(), KeepFault> {
+) -> Result<(), Refusal> {
     if !connection.is_autocommit() {
-        return Err(KeepFault::Failed);
+        return Err(Refusal::Failed);
     }
     let mut transaction = connection.transaction();
     write_number(&mut transaction, number)?;
@@ -33,7 +33,7 @@ pub(crate) fn write_check<S: Alter>(
 fn write_chunk<S: Alter>(
     transaction: &mut Transaction<'_, S>,
     command: &Command,
-) -> Result<(), KeepFault> {
+) -> Result<(), Refusal> {
     let number = as_integer(command.number)?;
     let table = command.table.as_str();
     if command.replace {
@@ -49,10 +49,10 @@ fn write_chunk<S: Alter>(
 fn write_id<S: Alter>(
     transaction: &mut Transaction<'_, S>,
     command: &Command,
-) -> Result<(), KeepFault> {
+) -> Result<(), Refusal> {
     // A store with another id could not be read again.
     if !is_id(command.id.as_bytes()) {
-        return Err(KeepFault::Failed);
+        return Err(Refusal::Failed);
     }
     let number = as_integer(command.number)?;
     let rows = as_integer(command.rows)?;
@@ -68,19 +68,19 @@ fn write_id<S: Alter>(
 fn write_number<S: Alter>(
     transaction: &mut Transaction<'_, S>,
     number: u64,
-) -> Result<(), KeepFault> {
+) -> Result<(), Refusal> {
     let number = as_integer(number)?;
     let changed = transaction.execute(
         "UPDATE state SET number = ?1 WHERE one = 1 AND number < ?1",
         params![number],
     )?;
     if changed != 1 {
-        return Err(KeepFault::Failed);
+        return Err(Refusal::Failed);
     }
     Ok(())
 }
 
 // A number as the store has it.
-fn as_integer(number: u64) -> Result<i64, KeepFault> {
-    i64::try_from(number).map_err(|_| KeepFault::Failed)
+fn as_integer(number: u64) -> Result<i64, Refusal> {
+    i64::try_from(number).map_err(|_| Refusal::Failed)
 }

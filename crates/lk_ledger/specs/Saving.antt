@@ -3,10 +3,10 @@ use Rattle.std.specs.Prelude.{ℕ, not, if◌then◌else◌, List, [], ◌∷◌
 use Rattle.std.specs.List.{fold}
 use Rattle.std.specs.Option.{option_map}
 use Rattle.lk_val.specs.Texts.{is_same_text}
-use Rattle.lk_keep.specs.declared.command.Command.{Command}
-use Rattle.lk_keep.specs.declared.kept.Chunk.{Chunk}
-use Rattle.lk_keep.specs.declared.kept.Kept.{Kept}
-use Rattle.lk_keep.specs.declared.kept.KeptId.{KeptId}
+use Rattle.lk_ledger.specs.declared.command.Command.{Command}
+use Rattle.lk_ledger.specs.declared.kept.Chunk.{Chunk}
+use Rattle.lk_ledger.specs.declared.kept.Kept.{Kept}
+use Rattle.lk_ledger.specs.declared.kept.KeptId.{KeptId}
 
 -- the batch of a load
 abbrev pub chunk_of : Command → Chunk

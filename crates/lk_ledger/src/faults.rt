@@ -16,7 +16,7 @@ pub enum KeepFault {
 }
 
 impl From<NoMemory> for KeepFault {
-    ghost use Rattle.lk_keep.specs.declared.faults.KeepFault.{KeepFault};
+    ghost use Rattle.lk_ledger.specs.declared.faults.KeepFault.{KeepFault};
 
     ghost from_gives = { λ _ fault. fault ≡ KeepFault.NoMemory };
 
@@ -26,7 +26,7 @@ impl From<NoMemory> for KeepFault {
 }
 
 impl From<AllocError> for KeepFault {
-    ghost use Rattle.lk_keep.specs.declared.faults.KeepFault.{KeepFault};
+    ghost use Rattle.lk_ledger.specs.declared.faults.KeepFault.{KeepFault};
 
     ghost from_gives = { λ _ fault. fault ≡ KeepFault.NoMemory };
 

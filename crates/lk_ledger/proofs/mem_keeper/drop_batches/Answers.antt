@@ -1,7 +1,7 @@
 -- The closure only tests, so a filter is left.
 use Rattle.std.proofs.Common.{rules}
 use Rattle.std.proofs.lemmas.Fn.{filter_same}
-use Rattle.lk_keep.proofs.mem_keeper.drop_batches.Goals as goal
+use Rattle.lk_ledger.proofs.mem_keeper.drop_batches.Goals as goal
 
 pub returns-clause-others : goal.returns-clause-others
 returns-clause-others c = filter_same _ _ _ (λ x b f' k. search rules) _ _ c.retain.ensures.filtered

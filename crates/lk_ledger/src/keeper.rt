@@ -1,6 +1,6 @@
 ghost use Rattle.std.specs.Prelude.{◌≡◌, ℕ, Option, IfOk, IfSome, OnOk, OnErr};
-ghost use Rattle.lk_keep.specs.Causes.{HasKeepCause};
-ghost use Rattle.lk_keep.specs.Saving.{told_after, load, check};
+ghost use Rattle.lk_ledger.specs.Causes.{HasKeepCause};
+ghost use Rattle.lk_ledger.specs.Saving.{told_after, load, check};
 
 use crate::command::Command;
 use crate::faults::KeepFault;
@@ -9,7 +9,7 @@ use std::alloc::Global;
 
 /// A store of loads, each saved before any reader sees it. An object may tell what it holds.
 pub trait Keeper: Send {
-    ghost use Rattle.lk_keep.specs.declared.kept.Kept.{Kept};
+    ghost use Rattle.lk_ledger.specs.declared.kept.Kept.{Kept};
 
     /// What the store holds, where the object tells.
     ghost held: { Self → Option Kept };

@@ -2,8 +2,8 @@
 use Rattle.std.specs.Prelude.{ℕ, Bool, ◌==◌, if◌then◌else◌, List}
 use Rattle.std.specs.List.{list_any}
 use Rattle.lk_io.specs.Causes.{next_count}
-use Rattle.lk_keep.specs.declared.calls.Calls.{Calls}
-use Rattle.lk_keep.specs.declared.kept.Kept.{Kept}
+use Rattle.lk_ledger.specs.declared.calls.Calls.{Calls}
+use Rattle.lk_ledger.specs.declared.kept.Kept.{Kept}
 
 -- no call yet, of which those with these numbers are to fail
 abbrev pub no_calls : List ℕ → Calls

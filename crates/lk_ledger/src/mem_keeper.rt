@@ -1,8 +1,8 @@
 ghost use Rattle.std.specs.Prelude.{◌≡◌, ◌≤◌, ◌↔◌, Some, IfOk, OnOk, OnErr, IsErrOf, IsTrue, vec_len};
 ghost use Rattle.std.specs.Vec.{vec_capacity};
-ghost use Rattle.lk_keep.specs.Causes.{HasKeepCause};
-ghost use Rattle.lk_keep.specs.Memory.{no_calls, is_due, after_call};
-ghost use Rattle.lk_keep.specs.Saving.{other_chunks, after_load, after_check};
+ghost use Rattle.lk_ledger.specs.Causes.{HasKeepCause};
+ghost use Rattle.lk_ledger.specs.Memory.{no_calls, is_due, after_call};
+ghost use Rattle.lk_ledger.specs.Saving.{other_chunks, after_load, after_check};
 
 use crate::calls::Calls;
 use crate::command::Command;
@@ -23,7 +23,7 @@ pub struct MemKeeper {
 }
 
 impl Model for MemKeeper {
-    ghost use Rattle.lk_keep.specs.Memory.{Holding};
+    ghost use Rattle.lk_ledger.specs.Memory.{Holding};
 
     ghost Value = { Holding };
 

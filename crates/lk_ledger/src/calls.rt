@@ -1,5 +1,5 @@
 ghost use Rattle.std.specs.Prelude.{◌≡◌, ◌≤◌};
-ghost use Rattle.lk_keep.specs.Memory.{no_calls, is_due, after_call};
+ghost use Rattle.lk_ledger.specs.Memory.{no_calls, is_due, after_call};
 
 use lk_val::Items;
 

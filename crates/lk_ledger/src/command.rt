@@ -1,5 +1,5 @@
 ghost use Rattle.std.specs.Prelude.{◌≡◌, IfOk};
-ghost use Rattle.lk_keep.specs.Saving.{chunk_of, id_of};
+ghost use Rattle.lk_ledger.specs.Saving.{chunk_of, id_of};
 
 use crate::kept::{Chunk, KeptId};
 use lk_val::{Bytes, NoMemory, Text};
