@@ -51,16 +51,16 @@ kinds = record { parts = (Some kind.Text ∷ []) ∷ (Some kind.Text ∷ []) ∷
 
 -- `${name}`, `${view.name}`, and a column
 abbrev own : List ℕ → Code
-own name = code.Expr (record { references = reference.Own name ∷ []; expr = Column 0 0 })
+own name = code.Expr (record { references = reference.Own name ∷ []; expr = Column 0 0; unknown_call = None })
 
 abbrev of : List ℕ → List ℕ → Code
-of view name = code.Expr (record { references = reference.Of view name ∷ []; expr = Column 0 0 })
+of view name = code.Expr (record { references = reference.Of view name ∷ []; expr = Column 0 0; unknown_call = None })
 
 abbrev column : List ℕ → Code
-column name = code.Expr (record { references = reference.Column name ∷ []; expr = Column 0 0 })
+column name = code.Expr (record { references = reference.Column name ∷ []; expr = Column 0 0; unknown_call = None })
 
 abbrev is_null : List ℕ → Code
-is_null name = code.Expr (record { references = reference.Own name ∷ []; expr = IsNull (Column 0 0) })
+is_null name = code.Expr (record { references = reference.Own name ∷ []; expr = IsNull (Column 0 0); unknown_call = None })
 
 abbrev dimension : List ℕ → Code → DeclaredField
 dimension name sql = record {
@@ -79,7 +79,7 @@ abbrev key : List ℕ → DeclaredField
 key name = record {
   name = name;
   sort = field_sort.Dimension (Some type.Text);
-  sql = code.Expr (record { references = reference.Column (codes "c") ∷ []; expr = Column 0 0 });
+  sql = code.Expr (record { references = reference.Column (codes "c") ∷ []; expr = Column 0 0; unknown_call = None });
   key = code.Absent;
   filters = [];
   frames = [];
@@ -116,7 +116,7 @@ at_the_cycle : line (fields_of (view (codes "v") (dimension (codes "a") (own (co
 at_the_cycle = refl
 
 name_before_column : line (fields_of (view (codes "v") (dimension (codes "a")
-    (code.Expr (record { references = reference.Column (codes "nope") ∷ reference.Own (codes "x") ∷ []; expr = Concat (Column 0 0) (Column 0 1) })) ∷ [])))
+    (code.Expr (record { references = reference.Column (codes "nope") ∷ reference.Own (codes "x") ∷ []; expr = Concat (Column 0 0) (Column 0 1); unknown_call = None })) ∷ [])))
     N3 (codes "v.a") (codes "x")
 name_before_column = refl
 
@@ -275,6 +275,7 @@ over_twice name other = record {
   sql = code.Number (record {
     references = reference.Own other ∷ reference.Own other ∷ [];
     expr = Apply arithmetic.Plus (OfMeasure 0) (OfMeasure 1);
+    unknown_call = None;
   });
   key = code.Absent;
   filters = [];

@@ -8,4 +8,5 @@ mod measure_forms;
 mod places;
 mod reading;
 
-pub use reading::{ExprFault, read_expr, read_measure};
+pub use judging::Grammar;
+pub use reading::{ExprFault, fault_place, read_expr, read_measure};

@@ -53,7 +53,7 @@ pub fn read_expr(alloc: Global, text: &[u8]) -> Result<RawExpr, ExprFault>
 {
     match parse_expr(alloc, text)? {
         Some(e) => with_calls(e),
-        None => Err(ExprFault::E1(place_of(alloc, Grammar::Expressions, text)?)),
+        None => Err(ExprFault::E1(fault_place(alloc, Grammar::Expressions, text)?)),
     }
 }
 
@@ -72,7 +72,7 @@ pub fn read_measure(alloc: Global, text: &[u8]) -> Result<RawExpr, ExprFault>
 {
     match parse_measure(alloc, text)? {
         Some(e) => with_calls(e),
-        None => Err(ExprFault::E1(place_of(alloc, Grammar::Measures, text)?)),
+        None => Err(ExprFault::E1(fault_place(alloc, Grammar::Measures, text)?)),
     }
 }
 
@@ -88,7 +88,9 @@ fn with_calls(e: RawExpr) -> Result<RawExpr, ExprFault>
     }
 }
 
-fn place_of(alloc: Global, grammar: Grammar, text: &[u8]) -> Result<u32, NoMemory>
+/// The place of the fault in a text that is no expression of a grammar, which is that of E1: the number of bytes before it.
+/// (lookd)
+pub fn fault_place(alloc: Global, grammar: Grammar, text: &[u8]) -> Result<u32, NoMemory>
     ensures { IfOk result (IsSyntaxPlace (IsOfGrammar grammar) text.now) }
 {
     short_place(syntax_place(alloc, grammar, text)?)

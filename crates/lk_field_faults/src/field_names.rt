@@ -51,7 +51,7 @@ pub(crate) fn find_in_code(
                 findings,
             )
         }
-        Code::Absent | Code::Liquid | Code::Syntax(_) | Code::Call(_) => Ok(()),
+        Code::Absent | Code::Liquid | Code::Syntax(_) => Ok(()),
     }
 }
 

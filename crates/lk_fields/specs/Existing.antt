@@ -58,7 +58,8 @@ meant views scope part s (reference.Own name) = found_in views scope (writer.Fie
 meant views scope part s (reference.Of view name) = found_in views scope (writer.Field part) (Some view) name s ∷ []
 meant views scope part s (reference.Column name) = []
 
--- what code refers to: an expression to dimensions, that of a measure of type number to measures
+-- what code refers to: an expression to dimensions, that of a measure of type number to measures; one with an unknown call as
+-- any other
 abbrev pub meant_in : List DeclaredView → Scope → ℕ → Code → List (Option Found)
 meant_in views scope part (code.Expr written) = flat_map (meant views scope part sort.Dimension) written.references
 meant_in views scope part (code.Number written) = flat_map (meant views scope part sort.Measure) written.references

@@ -79,7 +79,7 @@ fn add_meant_in(
             let references = written.references.as_slice();
             add_all(views, scope, part, Sort::Measure, references, found)
         }
-        Code::Absent | Code::Liquid | Code::Syntax(_) | Code::Call(_) => Ok(()),
+        Code::Absent | Code::Liquid | Code::Syntax(_) => Ok(()),
     }
 }
 

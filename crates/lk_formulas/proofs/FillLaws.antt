@@ -306,7 +306,6 @@ module _ (schema : Schema) (views : List DeclaredView) (scope : Scope) (columns 
   code_told ps fs part code.Absent more h = tt
   code_told ps fs part code.Liquid more h = tt
   code_told ps fs part (code.Syntax place) more h = tt
-  code_told ps fs part (code.Call place) more h = tt
 
   ends_found : (ps : List Place) (fs : List (Option ResolvedField)) (found : List (Option Found)) → FoundTold ps fs found → list_all (λ t. is_in is_same_place t (ending views scope)) (places_of found) ≡ true
   ends_found ps fs [] h = refl
@@ -433,4 +432,3 @@ module _ (schema : Schema) (views : List DeclaredView) (scope : Scope) (columns 
   told_code ps fs h w code.Absent = tt
   told_code ps fs h w code.Liquid = tt
   told_code ps fs h w (code.Syntax place) = tt
-  told_code ps fs h w (code.Call place) = tt

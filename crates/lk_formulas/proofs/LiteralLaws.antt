@@ -27,7 +27,7 @@ use Rattle.lk_formulas.specs.declared.columns.UnknownColumn.{UnknownColumn}
 use Rattle.lk_formulas.specs.declared.columns.UnknownColumn.TheVariants as unknown_column
 use Rattle.lk_formulas.specs.Columns.{column_named, known_kind}
 use Rattle.lk_formulas.specs.FormulaKinds.{kinds_in}
-use Rattle.lk_formulas.specs.Formulas.{as_read, as_written, column_at, column_formula, dated_of, ends, expanded, expanded_field, field_named, formula_of, formula_within, framed, meaning, null, part_of, through}
+use Rattle.lk_formulas.specs.Formulas.{as_read, as_written, column_at, column_formula, dated_of, ends, expanded, expanded_field, field_named, formula_of, formula_within, framed, meaning, null, part_of, put_in, read_in, through, where_known}
 
 -- two formulas, of which the second is a text literal only where the first has one node
 abbrev pub IsSmall : Formula → Formula → Type 0
@@ -58,6 +58,10 @@ framed_small (Some f) e read small = no_text (Framed f e) (Framed f read) refl
 null_small : IsSmall null null
 null_small text h = omega arith
 
+known_small : (unknown : Option ℕ) (e read : Formula) → IsSmall e read → IsSmall e (where_known unknown read)
+known_small None e read small = small
+known_small (Some place) e read small = no_text e null refl
+
 module _ (schema : Schema) (views : List DeclaredView) (scope : Scope) (columns : ColumnKinds) (u : UnknownColumn) where
   module _ (f g : Place → Formula) (small : (p : Place) → IsSmall (f p) (g p)) where
     if_small : (found : Found) (e : Bool) → IsSmall (if e then framed found.frame (f found.place) else null) (if e then framed found.frame (g found.place) else null)
@@ -85,13 +89,14 @@ module _ (schema : Schema) (views : List DeclaredView) (scope : Scope) (columns 
 
     expanded_small : (w : Writer) (c : Code) → IsSmall (expanded schema views scope columns u as_written f w c) (expanded schema views scope columns u (as_read columns) g w c)
     expanded_small w (code.Expr written) =
-        read_small (kinds_in columns) (replacement (map (meaning schema views scope columns u f w) written.references)) (stands_at (map (meaning schema views scope columns u g w) written.references))
-        (λ p i. meanings_small w written.references i) written.expr
+        let by = map (meaning schema views scope columns u f w) written.references in
+        let read = map (meaning schema views scope columns u g w) written.references in
+        known_small written.unknown_call (put_in by written.expr) (read_in columns read written.expr)
+        (read_small (kinds_in columns) (replacement by) (stands_at read) (λ p i. meanings_small w written.references i) written.expr)
     expanded_small w code.Absent = null_small
     expanded_small w code.Liquid = null_small
     expanded_small w (code.Number written) = null_small
     expanded_small w (code.Syntax place) = null_small
-    expanded_small w (code.Call place) = null_small
 
     field_small : (part : ℕ) (o : Option DeclaredField)
         → IsSmall (expanded_field schema views scope columns u as_written f part o) (expanded_field schema views scope columns u (as_read columns) g part o)

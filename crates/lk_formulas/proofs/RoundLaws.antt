@@ -1,6 +1,6 @@
 -- What is computed through as many rounds as there are fields is settled where the references of a field come to an end.
 use Rattle.std.proofs.Common.{◌≡◌, ℕ, zero, suc, ◌≤◌, Bool, true, false, ◌&&◌, ◌||◌, List, [], ◌∷◌, ◌++◌, length, map, Option, Some, None, refl, sym, ap, ◌∙◌, subst, arith}
-use Rattle.std.specs.Prelude.{if◌then◌else◌}
+use Rattle.std.specs.Prelude.{if◌then◌else◌, is_none}
 use Rattle.std.specs.List.{flat_map, list_all}
 use Rattle.std.proofs.lemmas.Bool.{false≢true}
 use Rattle.std.proofs.lemmas.List.Folds.{list_all-map}
@@ -11,6 +11,7 @@ use Rattle.lk_objects.specs.declared.code.Code.{Code}
 use Rattle.lk_objects.specs.declared.code.Code.TheVariants as code
 use Rattle.lk_objects.specs.declared.code.Reference.{Reference}
 use Rattle.lk_objects.specs.declared.code.Reference.TheVariants as reference
+use Rattle.lk_objects.specs.declared.code.Written.{Written}
 use Rattle.lk_objects.specs.declared.field.DeclaredField.{DeclaredField}
 use Rattle.lk_objects.specs.declared.view.DeclaredView.{DeclaredView}
 use Rattle.lk_fields.specs.declared.scope.Found.{Found}
@@ -106,7 +107,7 @@ module _ (views : List DeclaredView) (scope : Scope) where
   -- ---- formulas
 
   module _ (schema : Schema) (columns : ColumnKinds) (u : UnknownColumn) where
-    module _ (join : List Formula → Formula → Formula) (f g : Place → Formula) where
+    module _ (join : List Formula → Written → Formula) (f g : Place → Formula) where
       same_through : (o : Option Found) → ((fd : Found) → o ≡ Some fd → f fd.place ≡ g fd.place) → through schema views scope columns u f o ≡ through schema views scope columns u g o
       same_through None agree = refl
       same_through (Some fd) agree = ap (λ e. if ends views scope fd.place then framed fd.frame e else null) (agree fd refl)
@@ -120,13 +121,12 @@ module _ (views : List DeclaredView) (scope : Scope) where
       same_expanded : (part : ℕ) (c : Code) (more : List (Option Found)) → AgreeOn f g (places_of (meant_in views scope part c ++ more))
           → expanded schema views scope columns u join f (writer.Field part) c ≡ expanded schema views scope columns u join g (writer.Field part) c
       same_expanded part (code.Expr written) more a =
-          ap (λ by. join by written.expr)
+          ap (λ by. join by written)
           (agree_all sort.Dimension part f g (λ k r. meaning schema views scope columns u k (writer.Field part) r) (same_meaning part) written.references more a)
       same_expanded part code.Absent more a = refl
       same_expanded part code.Liquid more a = refl
       same_expanded part (code.Number written) more a = refl
       same_expanded part (code.Syntax place) more a = refl
-      same_expanded part (code.Call place) more a = refl
 
       same_field : (part : ℕ) (o : Option DeclaredField) → AgreeOn f g (targets_with views scope part o)
           → expanded_field schema views scope columns u join f part o ≡ expanded_field schema views scope columns u join g part o
@@ -134,7 +134,7 @@ module _ (views : List DeclaredView) (scope : Scope) where
       same_field part (Some field) a = same_expanded part field.sql (meant_in views scope part field.key) a
 
     -- as it is written, and with its text literals read
-    pub formula_fixed : (join : List Formula → Formula → Formula) (p : Place) → ends views scope p ≡ true
+    pub formula_fixed : (join : List Formula → Written → Formula) (p : Place) → ends views scope p ≡ true
         → formula_by schema views scope columns u join p ≡ expanded_field schema views scope columns u join (formula_by schema views scope columns u join) p.part (field_at views scope p)
     formula_fixed join p h =
         fixed (formula_within schema views scope columns u join) (λ f p. expanded_field schema views scope columns u join f p.part (field_at views scope p))
@@ -156,14 +156,14 @@ module _ (views : List DeclaredView) (scope : Scope) where
       same_knows_all : (part : ℕ) (c : Code) (more : List (Option Found)) → AgreeOn f g (places_of (meant_in views scope part c ++ more))
           → knows_all schema views scope columns u f (writer.Field part) c ≡ knows_all schema views scope columns u g (writer.Field part) c
       same_knows_all part (code.Expr written) more a =
-          sym (list_all-map (λ b. b) (knows schema views scope columns u f (writer.Field part)) written.references)
+          ap (λ b. is_none written.unknown_call && b)
+          (sym (list_all-map (λ b. b) (knows schema views scope columns u f (writer.Field part)) written.references)
           ∙ ap (list_all (λ b. b)) (agree_all sort.Dimension part f g (λ k r. knows schema views scope columns u k (writer.Field part) r) (same_knows part) written.references more a)
-          ∙ list_all-map (λ b. b) (knows schema views scope columns u g (writer.Field part)) written.references
+          ∙ list_all-map (λ b. b) (knows schema views scope columns u g (writer.Field part)) written.references)
       same_knows_all part code.Absent more a = refl
       same_knows_all part code.Liquid more a = refl
       same_knows_all part (code.Number written) more a = refl
       same_knows_all part (code.Syntax place) more a = refl
-      same_knows_all part (code.Call place) more a = refl
 
       same_knows_field : (part : ℕ) (o : Option DeclaredField) → AgreeOn f g (targets_with views scope part o)
           → knows_field schema views scope columns u f part o ≡ knows_field schema views scope columns u g part o
@@ -197,7 +197,6 @@ module _ (views : List DeclaredView) (scope : Scope) where
     same_nodes part code.Liquid more a = refl
     same_nodes part (code.Expr written) more a = refl
     same_nodes part (code.Syntax place) more a = refl
-    same_nodes part (code.Call place) more a = refl
 
     same_nodes_field : (part : ℕ) (o : Option DeclaredField) → AgreeOn f g (targets_with views scope part o) → nodes_of_field views scope f part o ≡ nodes_of_field views scope g part o
     same_nodes_field part None a = refl

@@ -36,7 +36,7 @@ use Rattle.lk_formulas.specs.declared.resolved.ResolvedField.{ResolvedField}
 use Rattle.lk_formulas.specs.Columns.{column_named, known_kind}
 use Rattle.lk_formulas.specs.FieldKinds.{field_kinds, is_sure, key_clashes}
 use Rattle.lk_formulas.specs.FormulaKinds.{kinds_at, kinds_in}
-use Rattle.lk_formulas.specs.Formulas.{as_read, as_written, column_at, column_formula, dated_of, ends, field_named, formula_of, framed, is_certain, is_known, knows, knows_through, meaning, null, part_of, through}
+use Rattle.lk_formulas.specs.Formulas.{column_at, column_formula, dated_of, ends, field_named, formula_of, framed, is_certain, is_known, knows, knows_through, meaning, null, part_of, put_in, read_in, through}
 use Rattle.lk_formulas.specs.NumberSizes.{nodes_meant, nodes_of_code, nodes_of_field, nodes_through, number_nodes, number_nodes_within, told}
 use Rattle.lk_formulas.specs.Referents.{AreTold, column_kinds, column_referent, field_numbered, field_referent, formula_framed, formula_of_referent, formula_through, is_certain_referent, is_certain_through, kept_side_of, kept_side_through, number_size_of, number_size_through, numbered_referent, referent_of, side_framed, side_if, side_of_referent, side_through, size_of, size_through}
 use Rattle.lk_formulas.specs.Resolved.{code_told, field_kept, field_told, kept, most_nodes, resolved, resolved_field, resolved_in}
@@ -52,17 +52,23 @@ told_test k n m h = grind arith
 at_most : (k n : ℕ) → nat_lt k n ≡ false → n ≤ k
 at_most k n h = grind arith
 
-pub expr_told : (columns : ColumnKinds) (by read xs : List Formula) (e : Formula) (size : ℕ) → size ≡ told_nodes (as_written by e)
+pub expr_told : (columns : ColumnKinds) (by read xs : List Formula) (e : Formula) (size : ℕ) → size ≡ told_nodes (put_in by e)
     → ((i : ℕ) → (replacement read i ≡ replacement xs i) ⊎ (most_nodes < nodes_in (replacement by i)))
-    → (if nat_lt most_nodes size then None else Some (as_read columns xs e)) ≡ kept (as_written by e) (as_read columns read e)
+    → (if nat_lt most_nodes size then None else Some (read_in columns xs e)) ≡ kept (put_in by e) (read_in columns read e)
 expr_told columns by read xs e size is near =
-    let n = nodes_in (as_written by e) in
-    ap (λ m. if nat_lt most_nodes m then None else Some (as_read columns xs e)) is
-    ∙ ap (λ b. if b then None else Some (as_read columns xs e)) (told_test most_nodes n (2 ^ 64 - 1) (omega arith))
-    ∙ elim (nat_lt most_nodes n) as (λ b. nat_lt most_nodes n ≡ b → (if b then None else Some (as_read columns xs e)) ≡ (if b then None else Some (as_read columns read e))) [
+    let n = nodes_in (put_in by e) in
+    ap (λ m. if nat_lt most_nodes m then None else Some (read_in columns xs e)) is
+    ∙ ap (λ b. if b then None else Some (read_in columns xs e)) (told_test most_nodes n (2 ^ 64 - 1) (omega arith))
+    ∙ elim (nat_lt most_nodes n) as (λ b. nat_lt most_nodes n ≡ b → (if b then None else Some (read_in columns xs e)) ≡ (if b then None else Some (read_in columns read e))) [
       | true ↦ λ h. refl
       | false ↦ λ h. ap (λ x. Some x) (sym (same (kinds_in columns) (replacement by) (stands_at read) (stands_at xs) most_nodes (λ p i. near i) e (at_most most_nodes n h)))
     ] refl
+
+-- null in place of an expression
+pub null_told : (e : Formula) (size : ℕ) → size ≡ told_nodes e → (if nat_lt most_nodes size then None else Some null) ≡ kept e null
+null_told e size is =
+    ap (λ m. if nat_lt most_nodes m then None else Some null) is
+    ∙ ap (λ b. if b then None else Some null) (told_test most_nodes (nodes_in e) (2 ^ 64 - 1) (omega arith))
 
 -- ---- a column
 
@@ -372,7 +378,6 @@ other_resolved schema views scope columns u w code.Absent h = refl
 other_resolved schema views scope columns u w code.Liquid h = refl
 other_resolved schema views scope columns u w (code.Number written) h = refl
 other_resolved schema views scope columns u w (code.Syntax place) h = refl
-other_resolved schema views scope columns u w (code.Call place) h = refl
 
 pub other_number : (views : List DeclaredView) (scope : Scope) (part : ℕ) (c : Code)
     → ((written : WrittenNumber) → c ≡ code.Number written → ⊥) → 1 ≡ told (nodes_of_code views scope (number_nodes views scope) part c)
@@ -381,7 +386,6 @@ other_number views scope part code.Absent h = refl
 other_number views scope part code.Liquid h = refl
 other_number views scope part (code.Number written) h = absurd (h written refl)
 other_number views scope part (code.Syntax place) h = refl
-other_number views scope part (code.Call place) h = refl
 
 -- ---- what is told of a field
 
@@ -417,4 +421,3 @@ module _ (schema : Schema) (views : List DeclaredView) (scope : Scope) (columns 
   key_of_other code.Liquid h = refl
   key_of_other (code.Number written) h = refl
   key_of_other (code.Syntax place) h = refl
-  key_of_other (code.Call place) h = refl

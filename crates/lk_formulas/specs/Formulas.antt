@@ -1,5 +1,5 @@
--- The formula of a field: its expression over columns, with the fields that it refers to put in; as it is written, by which its nodes are counted, and with its text literals read. (Looker, LookML reference: substitution operators; lookd)
-use Rattle.std.specs.Prelude.{ℕ, zero, suc, Bool, false, ◌&&◌, if◌then◌else◌, List, map, length, Option, Some, None, is_some}
+-- The formula of a field: its expression over columns, with the fields that it refers to put in; as it is written, by which its nodes are counted, and with its text literals read. An expression with an unknown call has nodes as any other, and read it is null: it has a fault of its own, and gives no further one. (Looker, LookML reference: substitution operators; lookd)
+use Rattle.std.specs.Prelude.{ℕ, zero, suc, Bool, false, ◌&&◌, if◌then◌else◌, List, map, length, Option, Some, None, is_none, is_some}
 use Rattle.std.specs.List.{list_all}
 use Rattle.lk_val.specs.Least.{is_in}
 use Rattle.lk_val.specs.declared.value.Value.TheVariants as value
@@ -11,6 +11,7 @@ use Rattle.lk_objects.specs.declared.code.Code.{Code}
 use Rattle.lk_objects.specs.declared.code.Code.TheVariants as code
 use Rattle.lk_objects.specs.declared.code.Reference.{Reference}
 use Rattle.lk_objects.specs.declared.code.Reference.TheVariants as reference
+use Rattle.lk_objects.specs.declared.code.Written.{Written}
 use Rattle.lk_objects.specs.declared.field.DeclaredField.{DeclaredField}
 use Rattle.lk_objects.specs.declared.view.DeclaredView.{DeclaredView}
 use Rattle.lk_fields.specs.declared.scope.Found.{Found}
@@ -67,13 +68,25 @@ abbrev pub is_known : ColumnKinds → ℕ → Option ℕ → Bool
 is_known columns part None = false
 is_known columns part (Some column) = is_some (known_kind columns part column)
 
--- the expression of a text with what stands for each of its references, as it is written
-abbrev pub as_written : List Formula → Formula → Formula
-as_written by e = substituted (replacement by) e
+-- an expression with what stands for each of its references, as it is written
+abbrev pub put_in : List Formula → Formula → Formula
+put_in by e = substituted (replacement by) e
 
 -- and with its text literals read, given what stands for each reference with those read already
-abbrev pub as_read : ColumnKinds → List Formula → Formula → Formula
-as_read columns by e = dated_by (kinds_in columns) (stands_at by) e
+abbrev pub read_in : ColumnKinds → List Formula → Formula → Formula
+read_in columns by e = dated_by (kinds_in columns) (stands_at by) e
+
+-- what an expression means, and null where a call of it is unknown, whose place this is
+abbrev pub where_known : Option ℕ → Formula → Formula
+where_known None e = e
+where_known (Some place) e = null
+
+-- the formula of a text as it is written, and with its text literals read
+abbrev pub as_written : List Formula → Written → Formula
+as_written by written = put_in by written.expr
+
+abbrev pub as_read : ColumnKinds → List Formula → Written → Formula
+as_read columns by written = where_known written.unknown_call (read_in columns by written.expr)
 
 module _ (schema : Schema) (views : List DeclaredView) (scope : Scope) (columns : ColumnKinds) (u : UnknownColumn) where
   -- the field that a name means, given the formulas of fields; one that reaches a cycle has none
@@ -87,10 +100,10 @@ module _ (schema : Schema) (views : List DeclaredView) (scope : Scope) (columns 
   meaning further w r = through further (field_named views scope w sort.Dimension r)
 
   -- given how an expression and what stands for its references are put together
-  module _ (join : List Formula → Formula → Formula) where
+  module _ (join : List Formula → Written → Formula) where
     -- a code with the meanings of its references put in; what is no expression is null
     abbrev pub expanded : (Place → Formula) → Writer → Code → Formula
-    expanded further w (code.Expr written) = join (map (meaning further w) written.references) written.expr
+    expanded further w (code.Expr written) = join (map (meaning further w) written.references) written
     expanded further w c = null
 
     abbrev pub expanded_field : (Place → Formula) → ℕ → Option DeclaredField → Formula
@@ -121,7 +134,7 @@ module _ (schema : Schema) (views : List DeclaredView) (scope : Scope) (columns 
   abbrev pub dated_in : Writer → Code → Formula
   dated_in w c = expanded (as_read columns) dated_of w c
 
-  -- ---- whether all that stands in a formula is known
+  -- ---- whether all that stands in a formula is known, its calls too
 
   abbrev pub knows_through : (Place → Bool) → Option Found → Bool
   knows_through further None = false
@@ -132,7 +145,7 @@ module _ (schema : Schema) (views : List DeclaredView) (scope : Scope) (columns 
   knows further w r = knows_through further (field_named views scope w sort.Dimension r)
 
   abbrev pub knows_all : (Place → Bool) → Writer → Code → Bool
-  knows_all further w (code.Expr written) = list_all (knows further w) written.references
+  knows_all further w (code.Expr written) = is_none written.unknown_call && list_all (knows further w) written.references
   knows_all further w c = false
 
   abbrev pub knows_field : (Place → Bool) → ℕ → Option DeclaredField → Bool

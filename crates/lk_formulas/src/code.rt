@@ -1,13 +1,14 @@
 ghost use Rattle.std.specs.Prelude.{◌≡◌, ◌<◌, Some, None, IfOk, List, false, length, map, nat_lt, slice_set, if◌then◌else◌};
 ghost use Rattle.std.specs.List.{list_all};
 ghost use Rattle.lk_types.specs.Formula.{Formula};
+ghost use Rattle.lk_fields.specs.Substituted.{told_nodes};
 ghost use Rattle.lk_dated.specs.Sides.{side_of};
 ghost use Rattle.lk_formulas.specs.declared.columns.ColumnKinds.{ColumnKinds};
 ghost use Rattle.lk_formulas.specs.declared.columns.UnknownColumn.{UnknownColumn};
 ghost use Rattle.lk_formulas.specs.FormulaKinds.{kinds_at};
-ghost use Rattle.lk_formulas.specs.Formulas.{as_read, as_written, null};
+ghost use Rattle.lk_formulas.specs.Formulas.{null, put_in, read_in};
 ghost use Rattle.lk_formulas.specs.NumberSizes.{nodes_of_code, number_nodes, told};
-ghost use Rattle.lk_formulas.specs.Referents.{AreTold, formula_of_referent, is_certain_referent, kept_side_of};
+ghost use Rattle.lk_formulas.specs.Referents.{AreTold, formula_of_referent, is_certain_referent, kept_side_of, size_of};
 ghost use Rattle.lk_formulas.specs.Resolved.{most_nodes, resolved, resolved_in};
 ghost use Rattle.lk_formulas.specs.Told.{IsCodeTold};
 
@@ -46,7 +47,11 @@ pub(crate) fn resolved_code(
             let references = written.references.as_slice();
             let referents = referents_of(alloc, names, writer, Sort::Dimension, references)?;
             let referents = referents.as_slice();
-            resolved_with(alloc, columns, unknown, fields, referents, &written.expr)
+            let expr = &written.expr;
+            match written.unknown_call {
+                None => resolved_with(alloc, columns, unknown, fields, referents, expr),
+                Some(_) => resolved_unknown(alloc, fields, referents, expr),
+            }
         }
         _ => resolved_null(alloc),
     }
@@ -75,7 +80,7 @@ fn resolved_with(
 ) -> Result<ResolvedCode, NoMemory>
     ensures { (by read : List Formula) → AreTold columns.now unknown fields.now referents.now by read
         → IfOk result (λ made. made
-        ≡ resolved columns.now (as_written by expr.now) (as_read columns.now read expr.now) (list_all (is_certain_referent columns.now fields.now) referents.now)) }
+        ≡ resolved columns.now (put_in by expr.now) (read_in columns.now read expr.now) (list_all (is_certain_referent columns.now fields.now) referents.now)) }
 {
     let sizes = sizes_of(alloc, fields, referents)?;
     let sides = sides_of(alloc, columns, unknown, fields, referents)?;
@@ -87,6 +92,43 @@ fn resolved_with(
         is_certain: are_certain(columns, fields, referents),
         expr: kept(alloc, columns, unknown, fields, referents, expr, size)?,
     })
+}
+
+// The formula of an expression with an unknown call: its nodes count as those of any other, and it means null.
+fn resolved_unknown(
+    alloc: Global,
+    fields: &[Option<ResolvedField>],
+    referents: &[Referent],
+    expr: &Expr,
+) -> Result<ResolvedCode, NoMemory>
+    ensures { (columns : ColumnKinds) (by : List Formula) → map (size_of fields.now) referents.now ≡ map told_nodes by
+        → IfOk result (λ made. made ≡ resolved columns (put_in by expr.now) null false) }
+{
+    let sizes = sizes_of(alloc, fields, referents)?;
+    null_of_size(alloc, nodes_with(expr, sizes.as_slice()))
+}
+
+// Null in place of an expression of so many nodes.
+fn null_of_size(alloc: Global, size: usize) -> Result<ResolvedCode, NoMemory>
+    ensures { (columns : ColumnKinds) (e : Formula) → size ≡ told_nodes e
+        → IfOk result (λ made. made ≡ resolved columns e null false) }
+{
+    Ok(ResolvedCode {
+        size,
+        kinds: KindSet::every(),
+        is_certain: false,
+        expr: kept_null(alloc, size)?,
+    })
+}
+
+// Null, where the expression has not too many nodes.
+fn kept_null(alloc: Global, size: usize) -> Result<Option<Expr>, NoMemory>
+    ensures { IfOk result (λ made. made ≡ (if nat_lt most_nodes size then None else Some null)) }
+{
+    if MOST_NODES < size {
+        return Ok(None);
+    }
+    Ok(Some(null(alloc)?))
 }
 
 // The formula itself with its text literals read, where its size is not too large. It is made only then, since an
@@ -102,7 +144,7 @@ fn kept(
 ) -> Result<Option<Expr>, NoMemory>
     ensures { map (kept_side_of columns.now unknown fields.now) referents.now ≡ map (side_of (kinds_at columns.now)) (map (formula_of_referent columns.now unknown fields.now) referents.now)
         → IfOk result (λ made. made ≡ (if nat_lt most_nodes size then None
-        else Some (as_read columns.now (map (formula_of_referent columns.now unknown fields.now) referents.now) expr.now))) }
+        else Some (read_in columns.now (map (formula_of_referent columns.now unknown fields.now) referents.now) expr.now))) }
 {
     if size > MOST_NODES {
         return Ok(None);

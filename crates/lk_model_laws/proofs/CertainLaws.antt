@@ -103,12 +103,12 @@ module _ (schema : Schema) (views : List DeclaredView) (scope : Scope) (columns 
       → ((t : Place) → is_in is_same_place t (places_of (existing.meant_in views scope place.part c)) ≡ true → HoldsFrom n t) → AreColumns schema v c
       → knows_all schema views scope columns u (certain_within schema views scope columns u m) (writer.Field place.part) c ≡ true
   code_known n m later place v seen (code.Expr text) is names hold cs =
-      all_known n m place.part later v seen text.references names (λ i r at found e. hold found.place (place_referred views scope place.part sort.Dimension text.references i r found at e)) cs
+      both (is_none text.unknown_call) (list_all (knows schema views scope columns u (certain_within schema views scope columns u m) (writer.Field place.part)) text.references) is
+      (all_known n m place.part later v seen text.references names (λ i r at found e. hold found.place (place_referred views scope place.part sort.Dimension text.references i r found at e)) cs)
   code_known n m later place v seen (code.Number text) is names hold cs = absurd (false≢true is)
   code_known n m later place v seen code.Absent is names hold cs = absurd (false≢true is)
   code_known n m later place v seen code.Liquid is names hold cs = absurd (false≢true is)
   code_known n m later place v seen (code.Syntax p) is names hold cs = absurd (false≢true is)
-  code_known n m later place v seen (code.Call p) is names hold cs = absurd (false≢true is)
 
   place_known : (n : ℕ) (place : Place) → ((t : Place) → is_in is_same_place t (targets views scope place) ≡ true → HoldsFrom n t) → HoldsFrom (suc n) place
   place_known n place hold field at takes there zero later = absurd (omega arith)

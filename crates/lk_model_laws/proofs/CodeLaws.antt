@@ -8,6 +8,7 @@ use Rattle.lk_val.specs.Numbers.{num_of}
 use Rattle.lk_val.specs.declared.num.Num.{Num}
 use Rattle.lk_val.specs.declared.num.NumFault.{NumFault}
 use Rattle.lk_params.specs.Known.{holds_liquid}
+use Rattle.lk_types.specs.Calculation as calculation
 use Rattle.lk_types.specs.Calculation.{Calculation}
 use Rattle.lk_types.specs.CalculationNodes.{calculations_of}
 use Rattle.lk_types.specs.Formula as formula
@@ -22,7 +23,7 @@ use Rattle.lk_expr_token.specs.declared.token.Token.TheVariants as token
 use Rattle.lk_expr_token.specs.Functions.{function_of, is_of_measures}
 use Rattle.lk_expr_tree.specs.declared.raw.Joint.{Joint}
 use Rattle.lk_expr_tree.specs.declared.raw.Joint.TheVariants as joint
-use Rattle.lk_expr_tree.specs.Calls.{are_measures, is_arithmetic, is_measure, is_taken, place_unless, unknown_among, unknown_call}
+use Rattle.lk_expr_tree.specs.Calls.{are_measures, is_arithmetic, is_measure}
 use Rattle.lk_expr_tree.specs.Grammar.{Tree, Number, Text, Name, Column, Field, FieldOf, Truth, Null, Group, Call, Case, CaseElse, Negate, Chain, Compare, IsNull, In, Between, Like, Not, Args, one, more, Branches, when, then_when, print, print_args}
 use Rattle.lk_expr_place.specs.declared.judging.Grammar.{Grammar}
 use Rattle.lk_expr_place.specs.declared.judging.Grammar.TheVariants.{Expressions, Measures}
@@ -39,7 +40,7 @@ use Rattle.lk_written.specs.Skeletons.{branch_skeletons, called, joined, skeleto
 use Rattle.lk_written.proofs.TokenLaws.{both_true, is_real, spelled_real}
 use Rattle.lk_model_laws.proofs.GroundedLaws.{IsReferred, IsReferredCode}
 use Rattle.lk_model_laws.proofs.ListLaws.{all_append, all_more}
-use Rattle.lk_model_laws.proofs.PieceLaws.{none_left, none_right, some_none}
+use Rattle.lk_model_laws.proofs.PieceLaws.{some_none}
 use Rattle.lk_model_laws.proofs.WholeExploreLaws.{IsWholeCode, are_whole_numbers, numbers_form}
 use Rattle.lk_model_laws.proofs.WholeLaws.{are_whole, are_whole_cases, call_form, case_form, list_form}
 
@@ -58,21 +59,25 @@ all_cases (c ∷ a ∷ xs) h =
     (both (is_whole_form c) (is_whole_form a) (first (is_whole_form c) (is_whole_form a && list_all is_whole_form xs) h) (first (is_whole_form a) (list_all is_whole_form xs) rest))
     (all_cases xs (second (is_whole_form a) (list_all is_whole_form xs) rest))
 
+coalesce_whole : (xs : List Formula) → has_item (formulas_of xs) ≡ true → Every is_whole_form xs → is_whole_form (formula.Coalesce (formulas_of xs)) ≡ true
+coalesce_whole xs some h = call_form (formulas_of xs) ∙ both (has_item (formulas_of xs)) (are_whole (formulas_of xs)) some (all_forms xs h)
+
+-- a call that is unknown too, which stands as COALESCE
 called_whole : (f : Option Function) (xs : List Formula) → has_item (formulas_of xs) ≡ true → Every is_whole_form xs → is_whole_form (called f xs) ≡ true
-called_whole (Some function.Coalesce) xs some h = call_form (formulas_of xs) ∙ both (has_item (formulas_of xs)) (are_whole (formulas_of xs)) some (all_forms xs h)
-called_whole (Some function.NullIf) [] some h = refl
-called_whole (Some function.NullIf) (a ∷ []) some h = refl
+called_whole None xs some h = coalesce_whole xs some h
+called_whole (Some function.Coalesce) xs some h = coalesce_whole xs some h
+called_whole (Some function.NullIf) [] some h = coalesce_whole [] some h
+called_whole (Some function.NullIf) (a ∷ []) some h = coalesce_whole (a ∷ []) some h
 called_whole (Some function.NullIf) (a ∷ b ∷ []) some h =
     let rest = second (is_whole_form a) (is_whole_form b && true) h in
     both (is_whole_form a) (is_whole_form b) (first (is_whole_form a) (is_whole_form b && true) h) (first (is_whole_form b) true rest)
-called_whole (Some function.NullIf) (a ∷ b ∷ c ∷ xs) some h = refl
-called_whole (Some function.Lower) [] some h = refl
+called_whole (Some function.NullIf) (a ∷ b ∷ c ∷ xs) some h = coalesce_whole (a ∷ b ∷ c ∷ xs) some h
+called_whole (Some function.Lower) [] some h = coalesce_whole [] some h
 called_whole (Some function.Lower) (a ∷ []) some h = first (is_whole_form a) true h
-called_whole (Some function.Lower) (a ∷ b ∷ xs) some h = refl
-called_whole (Some function.Upper) [] some h = refl
+called_whole (Some function.Lower) (a ∷ b ∷ xs) some h = coalesce_whole (a ∷ b ∷ xs) some h
+called_whole (Some function.Upper) [] some h = coalesce_whole [] some h
 called_whole (Some function.Upper) (a ∷ []) some h = first (is_whole_form a) true h
-called_whole (Some function.Upper) (a ∷ b ∷ xs) some h = refl
-called_whole None xs some h = refl
+called_whole (Some function.Upper) (a ∷ b ∷ xs) some h = coalesce_whole (a ∷ b ∷ xs) some h
 
 unless_whole : (negated : Bool) (e : Formula) → is_whole_form e ≡ true → is_whole_form (unless negated e) ≡ true
 unless_whole true e h = h
@@ -202,69 +207,62 @@ numbers_some : (n : ℕ) (args : Args) → has_argument (calculations_of (measur
 numbers_some n (one a) = refl
 numbers_some n (more args a) = some_argument (measure_skeletons n args) (measure_skeleton (n + count_in args) a)
 
-unplaced : (b : Bool) (place : ℕ) → place_unless b place ≡ None → b ≡ true
-unplaced true place h = refl
-unplaced false place h = absurd (some_none h)
+coalesce_number : (xs : List Calculation) → has_argument (calculations_of xs) ≡ true → Every is_whole_calculation xs → is_whole_calculation (calculation.Coalesce (calculations_of xs)) ≡ true
+coalesce_number xs some h = numbers_form (calculations_of xs) ∙ both (has_argument (calculations_of xs)) (are_whole_numbers (calculations_of xs)) some (all_numbers xs h)
 
-called_number : (f : Option Function) (n : ℕ) (args : Args) → is_of_measures f ≡ true → is_taken f args ≡ true → Every is_whole_calculation (measure_skeletons n args)
-    → is_whole_calculation (numbers.called f (measure_skeletons n args)) ≡ true
-called_number (Some function.Coalesce) n args is taken h =
-    numbers_form (calculations_of (measure_skeletons n args))
-    ∙ both (has_argument (calculations_of (measure_skeletons n args))) (are_whole_numbers (calculations_of (measure_skeletons n args))) (numbers_some n args) (all_numbers (measure_skeletons n args) h)
-called_number (Some function.NullIf) n (one a) is taken h = absurd (false≢true taken)
-called_number (Some function.NullIf) n (more (one a) b) is taken h =
-    let x = measure_skeleton n a in
-    let y = measure_skeleton (n + count a) b in
+called_number : (f : Option Function) (xs : List Calculation) → has_argument (calculations_of xs) ≡ true → Every is_whole_calculation xs → is_whole_calculation (numbers.called f xs) ≡ true
+called_number None xs some h = coalesce_number xs some h
+called_number (Some function.Coalesce) xs some h = coalesce_number xs some h
+called_number (Some function.NullIf) [] some h = coalesce_number [] some h
+called_number (Some function.NullIf) (x ∷ []) some h = coalesce_number (x ∷ []) some h
+called_number (Some function.NullIf) (x ∷ y ∷ []) some h =
     let rest = second (is_whole_calculation x) (is_whole_calculation y && true) h in
     both (is_whole_calculation x) (is_whole_calculation y) (first (is_whole_calculation x) (is_whole_calculation y && true) h) (first (is_whole_calculation y) true rest)
-called_number (Some function.NullIf) n (more (more args a) b) is taken h = absurd (false≢true taken)
-called_number (Some function.Lower) n args is taken h = absurd (false≢true is)
-called_number (Some function.Upper) n args is taken h = absurd (false≢true is)
-called_number None n args is taken h = absurd (false≢true is)
+called_number (Some function.NullIf) (x ∷ y ∷ z ∷ xs) some h = coalesce_number (x ∷ y ∷ z ∷ xs) some h
+called_number (Some function.Lower) xs some h = coalesce_number xs some h
+called_number (Some function.Upper) xs some h = coalesce_number xs some h
 
 mutual
-  measure_whole : (n : ℕ) (e : Tree) → list_all is_real (print e) ≡ true → unknown_call e ≡ None → is_measure e ≡ true → is_whole_calculation (measure_skeleton n e) ≡ true
-  measure_whole n (Number text) real known is = number_whole (num_of text) (both_true (is_ok (num_of text)) true real).0
-  measure_whole n (Field name) real known is = refl
-  measure_whole n (FieldOf view name) real known is = refl
-  measure_whole n (Group a) real known is = measure_whole n a (real_parts (print a) (token.Sign sign.Close ∷ []) real).0 known is
-  measure_whole n (Call name place args) real known is =
+  measure_whole : (n : ℕ) (e : Tree) → list_all is_real (print e) ≡ true → is_measure e ≡ true → is_whole_calculation (measure_skeleton n e) ≡ true
+  measure_whole n (Number text) real is = number_whole (num_of text) (both_true (is_ok (num_of text)) true real).0
+  measure_whole n (Field name) real is = refl
+  measure_whole n (FieldOf view name) real is = refl
+  measure_whole n (Group a) real is = measure_whole n a (real_parts (print a) (token.Sign sign.Close ∷ []) real).0 is
+  measure_whole n (Call name place args) real is =
       let called_is = both_true (is_of_measures (function_of name)) (are_measures args) is in
-      called_number (function_of name) n args called_is.0
-      (unplaced (is_taken (function_of name) args) place (none_left (place_unless (is_taken (function_of name) args) place) (unknown_among args) known))
-      (measures_whole n args (real_parts (print_args args) (token.Sign sign.Close ∷ []) (both_true (is_real (token.Name name place)) (list_all is_real (print_args args ++ token.Sign sign.Close ∷ [])) real).1).0
-      (none_right (place_unless (is_taken (function_of name) args) place) (unknown_among args) known) called_is.1)
-  measure_whole n (Negate a) real known is = measure_whole n a real known is
-  measure_whole n (Chain j a b) real known is =
+      called_number (function_of name) (measure_skeletons n args) (numbers_some n args)
+      (measures_whole n args (real_parts (print_args args) (token.Sign sign.Close ∷ []) (both_true (is_real (token.Name name place)) (list_all is_real (print_args args ++ token.Sign sign.Close ∷ [])) real).1).0 called_is.1)
+  measure_whole n (Negate a) real is = measure_whole n a real is
+  measure_whole n (Chain j a b) real is =
       let parts = both_true (is_arithmetic j) (is_measure a && is_measure b) is in
       let sides = both_true (is_measure a) (is_measure b) parts.1 in
       let left_real = real_parts (print a) _ real in
       joined_number j (measure_skeleton n a) (measure_skeleton (n + count a) b) parts.0
-      (measure_whole n a left_real.0 (none_left (unknown_call a) (unknown_call b) known) sides.0)
-      (measure_whole (n + count a) b (both_true (is_real _) (list_all is_real (print b)) left_real.1).1 (none_right (unknown_call a) (unknown_call b) known) sides.1)
-  measure_whole n (Text text) real known is = absurd (false≢true is)
-  measure_whole n (Column name) real known is = absurd (false≢true is)
-  measure_whole n (Name name place) real known is = absurd (false≢true is)
-  measure_whole n (Truth b) real known is = absurd (false≢true is)
-  measure_whole n Null real known is = absurd (false≢true is)
-  measure_whole n (Case branches) real known is = absurd (false≢true is)
-  measure_whole n (CaseElse branches a) real known is = absurd (false≢true is)
-  measure_whole n (Compare c a b) real known is = absurd (false≢true is)
-  measure_whole n (IsNull negated a) real known is = absurd (false≢true is)
-  measure_whole n (In negated a args) real known is = absurd (false≢true is)
-  measure_whole n (Between negated a low high) real known is = absurd (false≢true is)
-  measure_whole n (Like negated a pattern) real known is = absurd (false≢true is)
-  measure_whole n (Not a) real known is = absurd (false≢true is)
+      (measure_whole n a left_real.0 sides.0)
+      (measure_whole (n + count a) b (both_true (is_real _) (list_all is_real (print b)) left_real.1).1 sides.1)
+  measure_whole n (Text text) real is = absurd (false≢true is)
+  measure_whole n (Column name) real is = absurd (false≢true is)
+  measure_whole n (Name name place) real is = absurd (false≢true is)
+  measure_whole n (Truth b) real is = absurd (false≢true is)
+  measure_whole n Null real is = absurd (false≢true is)
+  measure_whole n (Case branches) real is = absurd (false≢true is)
+  measure_whole n (CaseElse branches a) real is = absurd (false≢true is)
+  measure_whole n (Compare c a b) real is = absurd (false≢true is)
+  measure_whole n (IsNull negated a) real is = absurd (false≢true is)
+  measure_whole n (In negated a args) real is = absurd (false≢true is)
+  measure_whole n (Between negated a low high) real is = absurd (false≢true is)
+  measure_whole n (Like negated a pattern) real is = absurd (false≢true is)
+  measure_whole n (Not a) real is = absurd (false≢true is)
 
-  measures_whole : (n : ℕ) (args : Args) → list_all is_real (print_args args) ≡ true → unknown_among args ≡ None → are_measures args ≡ true → Every is_whole_calculation (measure_skeletons n args)
-  measures_whole n (one a) real known is = both (is_whole_calculation (measure_skeleton n a)) true (measure_whole n a real known is) refl
-  measures_whole n (more args a) real known is =
+  measures_whole : (n : ℕ) (args : Args) → list_all is_real (print_args args) ≡ true → are_measures args ≡ true → Every is_whole_calculation (measure_skeletons n args)
+  measures_whole n (one a) real is = both (is_whole_calculation (measure_skeleton n a)) true (measure_whole n a real is) refl
+  measures_whole n (more args a) real is =
       let parts = both_true (are_measures args) (is_measure a) is in
       let sides = real_parts (print_args args) (token.Sign sign.Comma ∷ print a) real in
       every-append is_whole_calculation (measure_skeletons n args) (measure_skeleton (n + count_in args) a ∷ [])
-      (measures_whole n args sides.0 (none_left (unknown_among args) (unknown_call a) known) parts.0)
+      (measures_whole n args sides.0 parts.0)
       (both (is_whole_calculation (measure_skeleton (n + count_in args) a)) true
-      (measure_whole (n + count_in args) a (both_true (is_real (token.Sign sign.Comma)) (list_all is_real (print a)) sides.1).1 (none_right (unknown_among args) (unknown_call a) known) parts.1) refl)
+      (measure_whole (n + count_in args) a (both_true (is_real (token.Sign sign.Comma)) (list_all is_real (print a)) sides.1).1 parts.1) refl)
 
 -- ---- calculations: what they name
 
@@ -316,13 +314,13 @@ module _ (P : ℕ → Type 0) where
 
   called_named : (f : Option Function) (xs : List Calculation) → AllByRecursion P (measures_in_all (calculations_of xs)) → AllByRecursion P (measures_in (numbers.called f xs))
   called_named (Some function.Coalesce) xs h = h
-  called_named (Some function.NullIf) [] h = tt
-  called_named (Some function.NullIf) (a ∷ []) h = tt
+  called_named (Some function.NullIf) [] h = h
+  called_named (Some function.NullIf) (a ∷ []) h = h
   called_named (Some function.NullIf) (a ∷ b ∷ []) h = subst (λ ns. AllByRecursion P (measures_in a ++ ns)) (append-nil (measures_in b)) h
-  called_named (Some function.NullIf) (a ∷ b ∷ c ∷ xs) h = tt
-  called_named (Some function.Lower) xs h = tt
-  called_named (Some function.Upper) xs h = tt
-  called_named None xs h = tt
+  called_named (Some function.NullIf) (a ∷ b ∷ c ∷ xs) h = h
+  called_named (Some function.Lower) xs h = h
+  called_named (Some function.Upper) xs h = h
+  called_named None xs h = h
 
 number_named : (n : ℕ) (references : List Reference) (r : Result Num NumFault) → AllByRecursion (IsFrom n references) (measures_in (number_of r))
 number_named n references (Ok v) = tt
@@ -385,13 +383,12 @@ reading_right : (g : Grammar) (text : List ℕ) (c : Code) → IsReading g text 
 reading_right Expressions text (code.Expr written) h = (subst (λ (w : _). is_whole_form w.expr ≡ true) (sym h.2) (skeleton_whole 0 h.0), tt)
 reading_right Measures text (code.Number written) h = (
   subst (λ (w : _). is_whole_calculation w.expr ≡ true) (sym h.2)
-      (measure_whole 0 h.0 (spelled_real (length text) (print h.0) text h.1.0.expr.spelled) h.1.1 h.1.0.measure),
+      (measure_whole 0 h.0 (spelled_real (length text) (print h.0) text h.1.expr.spelled) h.1.measure),
   subst (λ (w : _). AllByRecursion (IsReferred w.references) (measures_in w.expr)) (sym h.2) (referred h.0),
 )
 reading_right Expressions text (code.Number written) h = absurd h
 reading_right Measures text (code.Expr written) h = absurd h
 reading_right g text (code.Syntax place) h = (tt, tt)
-reading_right g text (code.Call place) h = (tt, tt)
 reading_right g text code.Absent h = (tt, tt)
 reading_right g text code.Liquid h = (tt, tt)
 

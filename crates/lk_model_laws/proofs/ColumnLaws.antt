@@ -64,7 +64,6 @@ module _ (schema : Schema) (views : List DeclaredView) (scope : Scope) (columns 
   code_there object at code.Absent h = tt
   code_there object at code.Liquid h = tt
   code_there object at (code.Syntax place) h = tt
-  code_there object at (code.Call place) h = tt
 
   field_has : (f : DeclaredField) (n : ℕ) → field_at views scope (record { part = 0; field = n }) ≡ Some f → field_line schema views scope columns (record { part = 0; field = n }) ≡ None → HasColumns schema v f
   field_has f n at h =

@@ -89,7 +89,6 @@ module _ (views : List DeclaredView) (scope : Scope) where
       of_code code.Absent h = or_left (is_same_place p p) false (same_itself p)
       of_code code.Liquid h = or_left (is_same_place p p) false (same_itself p)
       of_code (code.Syntax place) h = or_left (is_same_place p p) false (same_itself p)
-      of_code (code.Call place) h = or_left (is_same_place p p) false (same_itself p)
 
       of_field : (o : Option DeclaredField) → is_field_over views scope o ≡ false → is_in is_same_place p (over_field views scope p o) ≡ true
       of_field None h = or_left (is_same_place p p) false (same_itself p)
@@ -163,7 +162,6 @@ module _ (views : List DeclaredView) (scope : Scope) where
     code_parts d k p code.Absent right_code names own h = (own refl, tt)
     code_parts d k p code.Liquid right_code names own h = (own refl, tt)
     code_parts d k p (code.Syntax place) right_code names own h = (own refl, tt)
-    code_parts d k p (code.Call place) right_code names own h = (own refl, tt)
 
     -- given what holds of the measures of a round
     abbrev Again : ℕ → ℕ → Type 0

@@ -51,20 +51,20 @@ cases_dated (c ∷ a ∷ xs) h =
     (both (are_literals_dated a) (are_cases_dated (cases_of xs)) (first (are_literals_dated a) (list_all are_literals_dated xs) rest) (cases_dated xs (second (are_literals_dated a) (list_all are_literals_dated xs) rest)))
 
 called_dated : (f : Option Function) (xs : List Formula) → Every are_literals_dated xs → are_literals_dated (called f xs) ≡ true
+called_dated None xs h = all_dated xs h
 called_dated (Some function.Coalesce) xs h = all_dated xs h
 called_dated (Some function.NullIf) [] h = refl
-called_dated (Some function.NullIf) (a ∷ []) h = refl
+called_dated (Some function.NullIf) (a ∷ []) h = all_dated (a ∷ []) h
 called_dated (Some function.NullIf) (a ∷ b ∷ []) h =
     let rest = second (are_literals_dated a) (are_literals_dated b && true) h in
     both (are_literals_dated a) (are_literals_dated b) (first (are_literals_dated a) (are_literals_dated b && true) h) (first (are_literals_dated b) true rest)
-called_dated (Some function.NullIf) (a ∷ b ∷ c ∷ xs) h = refl
+called_dated (Some function.NullIf) (a ∷ b ∷ c ∷ xs) h = all_dated (a ∷ b ∷ c ∷ xs) h
 called_dated (Some function.Lower) [] h = refl
 called_dated (Some function.Lower) (a ∷ []) h = first (are_literals_dated a) true h
-called_dated (Some function.Lower) (a ∷ b ∷ xs) h = refl
+called_dated (Some function.Lower) (a ∷ b ∷ xs) h = all_dated (a ∷ b ∷ xs) h
 called_dated (Some function.Upper) [] h = refl
 called_dated (Some function.Upper) (a ∷ []) h = first (are_literals_dated a) true h
-called_dated (Some function.Upper) (a ∷ b ∷ xs) h = refl
-called_dated None xs h = refl
+called_dated (Some function.Upper) (a ∷ b ∷ xs) h = all_dated (a ∷ b ∷ xs) h
 
 unless_dated : (negated : Bool) (e : Formula) → are_literals_dated e ≡ true → are_literals_dated (unless negated e) ≡ true
 unless_dated true e h = h
@@ -143,7 +143,6 @@ reading_dated Measures text (code.Number written) h = tt
 reading_dated Expressions text (code.Number written) h = absurd h
 reading_dated Measures text (code.Expr written) h = absurd h
 reading_dated g text (code.Syntax place) h = tt
-reading_dated g text (code.Call place) h = tt
 reading_dated g text code.Absent h = tt
 reading_dated g text code.Liquid h = tt
 

@@ -139,7 +139,6 @@ module _ (views : List DeclaredView) (scope : Scope) where
   placed_code part code.Absent = tt
   placed_code part code.Liquid = tt
   placed_code part (code.Syntax place) = tt
-  placed_code part (code.Call place) = tt
 
   placed_filters : (part : ℕ) (filters : List FilterText) → AllByRecursion IsPlacedName (map (filtered views scope part) filters)
   placed_filters part [] = tt

@@ -153,7 +153,6 @@ module _ (schema : Schema) (views : List DeclaredView) (scope : Scope) (columns 
     calculation_there code.Absent h = absurd (false≢true h)
     calculation_there code.Liquid h = absurd (false≢true h)
     calculation_there (code.Syntax p) h = absurd (false≢true h)
-    calculation_there (code.Call p) h = absurd (false≢true h)
 
   -- one of the open types
   opened : (m : NamedMeasure) (field : DeclaredField) → field_at views scope m.place ≡ Some field → exists views scope m.place ≡ true → has_sort sort.Measure field.sort ≡ true

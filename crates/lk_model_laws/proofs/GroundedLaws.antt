@@ -233,7 +233,6 @@ module _ (views : List DeclaredView) (scope : Scope) where
       code_known m code.Absent made right_code names h = refl
       code_known m code.Liquid made right_code names h = refl
       code_known m (code.Syntax place) made right_code names h = refl
-      code_known m (code.Call place) made right_code names h = refl
 
       abbrev round : ℕ → List Place
       round n = grown_times is_same_place (all_places views scope) (ends_after views scope) n

@@ -77,7 +77,6 @@ module _ (schema : Schema) (views : List DeclaredView) (scope : Scope) (columns 
   code_null further part s code.Absent is h = refl
   code_null further part s code.Liquid is h = refl
   code_null further part s (code.Syntax place) is h = refl
-  code_null further part s (code.Call place) is h = refl
 
   within_null : (n : ℕ) (place : Place) (field : DeclaredField) → field_at views scope place ≡ Some field → is_number field.sort ≡ true → formula_within schema views scope columns Null (as_read columns) n place ≡ null
   within_null zero place field at is = refl

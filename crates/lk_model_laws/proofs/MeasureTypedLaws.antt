@@ -128,7 +128,6 @@ module _ (schema : Schema) (views : List DeclaredView) (scope : Scope) (columns 
   key_known part code.Absent d h = refl
   key_known part code.Liquid d h = refl
   key_known part (code.Syntax place) d h = refl
-  key_known part (code.Call place) d h = refl
 
   -- what a measure without a fault has
   module _ (place : Place) (field : DeclaredField) (at : field_at views scope place ≡ Some field) (there : exists views scope place ≡ true) where
@@ -166,7 +165,6 @@ module _ (schema : Schema) (views : List DeclaredView) (scope : Scope) (columns 
     uncalculated s code.Absent h other = refl
     uncalculated s code.Liquid h other = refl
     uncalculated s (code.Syntax p) h other = refl
-    uncalculated s (code.Call p) h other = refl
 
     pub calculated : (s : FieldSort) → field.sort ≡ s → is_number s ≡ false → not (has_calculation (resolved_fields.number_with views scope place.part field.sql)) ≡ true
     calculated s is other = uncalculated s field.sql (subst (λ z. IsSortedCode z field.sql) is (placed_field (λ f. IsSortedCode f.sort f.sql) views sorted scope place field at)) other

@@ -1,6 +1,6 @@
 -- Each measure that a measure of type number of the model names is a number.
 use Rattle.std.proofs.Common.{◌≡◌, ◌∙◌, ℕ, zero, suc, Bool, true, false, ◌&&◌, ◌||◌, List, [], ◌∷◌, ◌++◌, map, length, refl, ap, sym, subst, Option, Some, None}
-use Rattle.std.specs.Prelude.{flat_map, if◌then◌else◌, slice_get}
+use Rattle.std.specs.Prelude.{flat_map, if◌then◌else◌, is_none, slice_get}
 use Rattle.std.specs.List.{AllByRecursion, list_all, list_any}
 use Rattle.std.specs.Option.{option_and_then}
 use Rattle.std.proofs.lemmas.Bool.{false≢true}
@@ -96,12 +96,11 @@ module _ (schema : Schema) (views : List DeclaredView) (scope : Scope) (columns 
     same_all w (r ∷ rs) = λ i. same_knows w r i && same_all w rs i
 
     same_code : (w : Writer) (c : Code) → knows_all schema views scope columns Null f w c ≡ knows_all schema views scope columns Kept g w c
-    same_code w (code.Expr written) = same_all w written.references
+    same_code w (code.Expr written) = ap (λ b. is_none written.unknown_call && b) (same_all w written.references)
     same_code w (code.Number written) = refl
     same_code w code.Absent = refl
     same_code w code.Liquid = refl
     same_code w (code.Syntax place) = refl
-    same_code w (code.Call place) = refl
 
     same_field : (part : ℕ) (o : Option DeclaredField) → knows_field schema views scope columns Null f part o ≡ knows_field schema views scope columns Kept g part o
     same_field part None = refl
@@ -189,7 +188,6 @@ module _ (schema : Schema) (views : List DeclaredView) (scope : Scope) (columns 
     code_typed part field code.Absent made is right_code own names fine = refl
     code_typed part field code.Liquid made is right_code own names fine = refl
     code_typed part field (code.Syntax place) made is right_code own names fine = refl
-    code_typed part field (code.Call place) made is right_code own names fine = refl
 
     with_names : (m : NamedMeasure) (field : DeclaredField) → field_at views scope m.place ≡ Some field → exists views scope m.place ≡ true → names_numbers y (measure_with schema views scope columns m field) ≡ true
     with_names m field at there =

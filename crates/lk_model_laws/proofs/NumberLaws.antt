@@ -241,7 +241,6 @@ module _ (views : List DeclaredView) (scope : Scope) where
   calculation_below some part code.Absent m = tt
   calculation_below some part code.Liquid m = tt
   calculation_below some part (code.Syntax place) m = tt
-  calculation_below some part (code.Call place) m = tt
 
 module _ (schema : Schema) (views : List DeclaredView) (scope : Scope) (columns : ColumnKinds) where
   pub same_measures : (named : List NamedMeasure) → AllByRecursion (IsOfField views scope) named → length (flat_map (measure_at schema views scope columns) named) ≡ length named

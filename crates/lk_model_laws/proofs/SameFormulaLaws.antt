@@ -8,6 +8,7 @@ use Rattle.lk_objects.specs.declared.code.Code.{Code}
 use Rattle.lk_objects.specs.declared.code.Code.TheVariants as code
 use Rattle.lk_objects.specs.declared.code.Reference.{Reference}
 use Rattle.lk_objects.specs.declared.code.Reference.TheVariants as reference
+use Rattle.lk_objects.specs.declared.code.Written.{Written}
 use Rattle.lk_objects.specs.declared.field.DeclaredField.{DeclaredField}
 use Rattle.lk_objects.specs.declared.view.DeclaredView.{DeclaredView}
 use Rattle.lk_fields.specs.declared.scope.Found.{Found}
@@ -35,7 +36,7 @@ module _ (schema : Schema) (views : List DeclaredView) (scope : Scope) (columns 
       of_column None is = refl
       of_column (Some c) is = of_kind (known_kind columns p c) c (known p name c is)
 
-  module _ (join : List Formula → Formula → Formula) where
+  module _ (join : List Formula → Written → Formula) where
     module _ (f g : Place → Formula) (same : (p : Place) → f p ≡ g p) where
       same_through : (o : Option Found) → through schema views scope columns Null f o ≡ through schema views scope columns Kept g o
       same_through None = refl
@@ -51,12 +52,11 @@ module _ (schema : Schema) (views : List DeclaredView) (scope : Scope) (columns 
       same_meanings w (r ∷ rs) = λ i. same_meaning w r i ∷ same_meanings w rs i
 
       same_expanded : (w : Writer) (c : Code) → expanded schema views scope columns Null join f w c ≡ expanded schema views scope columns Kept join g w c
-      same_expanded w (code.Expr written) = ap (λ by. join by written.expr) (same_meanings w written.references)
+      same_expanded w (code.Expr written) = ap (λ by. join by written) (same_meanings w written.references)
       same_expanded w (code.Number written) = refl
       same_expanded w code.Absent = refl
       same_expanded w code.Liquid = refl
       same_expanded w (code.Syntax place) = refl
-      same_expanded w (code.Call place) = refl
 
       same_field : (part : ℕ) (o : Option DeclaredField) → expanded_field schema views scope columns Null join f part o ≡ expanded_field schema views scope columns Kept join g part o
       same_field part None = refl

@@ -31,7 +31,6 @@ reading_number : (s : FieldSort) (text : List ℕ) (c : Code) → is_number s �
 reading_number s text (code.Number written) is h = is
 reading_number s text (code.Expr written) is h = absurd h
 reading_number s text (code.Syntax place) is h = tt
-reading_number s text (code.Call place) is h = tt
 reading_number s text code.Absent is h = tt
 reading_number s text code.Liquid is h = tt
 
@@ -39,7 +38,6 @@ reading_other : (s : FieldSort) (text : List ℕ) (c : Code) → is_number s ≡
 reading_other s text (code.Expr written) is h = is
 reading_other s text (code.Number written) is h = absurd h
 reading_other s text (code.Syntax place) is h = tt
-reading_other s text (code.Call place) is h = tt
 reading_other s text code.Absent is h = tt
 reading_other s text code.Liquid is h = tt
 

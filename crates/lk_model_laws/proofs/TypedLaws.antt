@@ -39,7 +39,7 @@ use Rattle.lk_formulas.specs.declared.columns.UnknownColumn.TheVariants.{Kept, N
 use Rattle.lk_formulas.specs.Columns.{column_named, known_kind}
 use Rattle.lk_formulas.specs.FieldKinds.{field_clashes, field_kinds, key_clashes, is_number, kind_of_type, misses_kind, or_text, sort_clashes, takes_no_number}
 use Rattle.lk_formulas.specs.FormulaKinds.{kinds_in}
-use Rattle.lk_formulas.specs.Formulas.{as_read, column_at, column_formula, dated_in, dated_of, ends, expanded, expanded_field, field_named, formula_in, formula_of, formula_within, framed, meaning, part_of, through}
+use Rattle.lk_formulas.specs.Formulas.{as_read, column_at, column_formula, dated_in, dated_of, ends, expanded, expanded_field, field_named, formula_in, formula_of, formula_within, framed, meaning, part_of, read_in, through, where_known}
 use Rattle.lk_formulas.specs.Resolved.{kept, most_nodes, resolved_field, resolved_in}
 use Rattle.lk_field_faults.specs.Expressions.{expression_line, is_large, is_over, number_with}
 use Rattle.lk_field_faults.specs.ExploreFields.{explore_fields_fault}
@@ -106,6 +106,10 @@ module _ (schema : Schema) (views : List DeclaredView) (scope : Scope) (columns 
   framed_dated None e h = h
   framed_dated (Some f) e h = h
 
+  known_dated : (unknown : Option ℕ) (e : Formula) → are_literals_dated e ≡ true → are_literals_dated (where_known unknown e) ≡ true
+  known_dated None e h = h
+  known_dated (Some place) e h = refl
+
   module _ (further : Place → Formula) (dated : (place : Place) → are_literals_dated (further place) ≡ true) where
     through_dated : (o : Option Found) → are_literals_dated (through schema views scope columns u further o) ≡ true
     through_dated None = refl
@@ -128,12 +132,11 @@ module _ (schema : Schema) (views : List DeclaredView) (scope : Scope) (columns 
     expanded_dated : (w : Writer) (c : Code) → IsDatedCode c → are_literals_dated (expanded schema views scope columns u (as_read columns) further w c) ≡ true
     expanded_dated w (code.Expr written) h =
         let by = map (meaning schema views scope columns u further w) written.references in
-        read_dated (kinds_in columns) (stands_at by) (listed_dated by (meanings_dated w written.references)) written.expr h
+        known_dated written.unknown_call (read_in columns by written.expr) (read_dated (kinds_in columns) (stands_at by) (listed_dated by (meanings_dated w written.references)) written.expr h)
     expanded_dated w (code.Number written) h = refl
     expanded_dated w code.Absent h = refl
     expanded_dated w code.Liquid h = refl
     expanded_dated w (code.Syntax place) h = refl
-    expanded_dated w (code.Call place) h = refl
 
     field_dated : (place : Place) (o : Option DeclaredField) → field_at views scope place ≡ o → are_literals_dated (expanded_field schema views scope columns u (as_read columns) further place.part o) ≡ true
     field_dated place None at = refl
@@ -199,7 +202,6 @@ module _ (schema : Schema) (views : List DeclaredView) (scope : Scope) (columns 
       of_code code.Absent d none = refl
       of_code code.Liquid d none = refl
       of_code (code.Syntax place) d none = refl
-      of_code (code.Call place) d none = refl
 
   -- a dimension is of the kind of its type
   module _ (clear : explore_fields_fault schema views scope columns ≡ None) where

@@ -44,7 +44,7 @@ use Rattle.lk_formulas.specs.declared.columns.UnknownColumn.{UnknownColumn}
 use Rattle.lk_formulas.specs.declared.columns.UnknownColumn.TheVariants as unknown_column
 use Rattle.lk_formulas.specs.Columns.{column_named, known_kind}
 use Rattle.lk_formulas.specs.FormulaKinds.{kinds_in}
-use Rattle.lk_formulas.specs.Formulas.{as_read, column_at, column_formula, dated_in, dated_of, ends, expanded, expanded_field, field_named, formula_in, formula_of, formula_within, framed, meaning, null, part_of, through}
+use Rattle.lk_formulas.specs.Formulas.{as_read, column_at, column_formula, dated_in, dated_of, ends, expanded, expanded_field, field_named, formula_in, formula_of, formula_within, framed, meaning, null, part_of, read_in, through, where_known}
 use Rattle.lk_formulas.specs.Resolved.{kept, most_nodes, resolved_field}
 use Rattle.lk_fields.specs.Substituted.{nodes_in}
 use Rattle.lk_scope.specs.ExploreNames.{dimension_named}
@@ -140,6 +140,10 @@ module _ (schema : Schema) (views : List DeclaredView) (scope : Scope) (columns 
   framed_whole None e h = h
   framed_whole (Some f) e h = h
 
+  known_whole : (unknown : Option ℕ) (e : Formula) → is_whole_form e ≡ true → is_whole_form (where_known unknown e) ≡ true
+  known_whole None e h = h
+  known_whole (Some place) e h = refl
+
   module _ (u : UnknownColumn) where
     column_whole : (v : UnknownColumn) (k : Option Kind) (part column : ℕ) → is_whole_form (column_formula v k part column) ≡ true
     column_whole unknown_column.Null None part column = refl
@@ -172,14 +176,13 @@ module _ (schema : Schema) (views : List DeclaredView) (scope : Scope) (columns 
 
       expanded_whole : (w : Writer) (c : Code) → IsWholeCode c → is_whole_form (expanded schema views scope columns u (as_read columns) further w c) ≡ true
       expanded_whole w (code.Expr written) h =
-          dated_whole (kinds_in columns) (stands_at (map (meaning schema views scope columns u further w) written.references))
-          (λ p column. every-at is_whole_form (map (meaning schema views scope columns u further w) written.references) column (Literal value.Null) (meanings_whole w written.references) refl)
-          written.expr h
+          let by = map (meaning schema views scope columns u further w) written.references in
+          known_whole written.unknown_call (read_in columns by written.expr)
+          (dated_whole (kinds_in columns) (stands_at by) (λ p column. every-at is_whole_form by column (Literal value.Null) (meanings_whole w written.references) refl) written.expr h)
       expanded_whole w (code.Number written) h = refl
       expanded_whole w code.Absent h = refl
       expanded_whole w code.Liquid h = refl
       expanded_whole w (code.Syntax place) h = refl
-      expanded_whole w (code.Call place) h = refl
 
       expanded_at : (place : Place) (o : Option DeclaredField) → field_at views scope place ≡ o → is_whole_form (expanded_field schema views scope columns u (as_read columns) further place.part o) ≡ true
       expanded_at place None is = refl
@@ -241,7 +244,6 @@ module _ (schema : Schema) (views : List DeclaredView) (scope : Scope) (columns 
   condition_whole part key code.Absent h = by_key_whole part key
   condition_whole part key code.Liquid h = by_key_whole part key
   condition_whole part key (code.Syntax place) h = by_key_whole part key
-  condition_whole part key (code.Call place) h = by_key_whole part key
 
   on_whole : (k : JoinKind) (o : Option Formula) → is_none_or_whole o ≡ true → is_none_or_whole (on_with k o) ≡ true
   on_whole join_kind.Cross o h = refl
@@ -290,7 +292,6 @@ module _ (schema : Schema) (views : List DeclaredView) (scope : Scope) (columns 
   number_whole part code.Absent h = refl
   number_whole part code.Liquid h = refl
   number_whole part (code.Syntax place) h = refl
-  number_whole part (code.Call place) h = refl
 
   abbrev is_whole_measure : Measure → Bool
   is_whole_measure m = is_none_or_whole m.value && is_none_or_whole m.key && is_none_or_whole_calculation m.number
@@ -325,7 +326,6 @@ module _ (schema : Schema) (views : List DeclaredView) (scope : Scope) (columns 
       of_code code.Absent k = refl
       of_code code.Liquid k = refl
       of_code (code.Syntax place) k = refl
-      of_code (code.Call place) k = refl
   where_whole (explore_filter.Always f ∷ filters) h = where_whole filters h.1
   where_whole (explore_filter.Access f ∷ filters) h = where_whole filters h.1
 

@@ -1,5 +1,5 @@
 -- The fields of a model whose kinds depend on all that stands in their expressions. (Looker, LookML reference: dimension_group, measure types)
-use Rattle.std.specs.Prelude.{Bool, true, false, Some, None}
+use Rattle.std.specs.Prelude.{Bool, true, false, Some, None, is_none}
 use Rattle.lk_objects.specs.declared.code.Code.{Code}
 use Rattle.lk_objects.specs.declared.code.Code.TheVariants as code
 use Rattle.lk_objects.specs.declared.field.FieldSort.{FieldSort}
@@ -29,8 +29,9 @@ takes_expression (sort.Measure (Some op.Count)) = false
 takes_expression (sort.Measure (Some op.Number)) = false
 takes_expression s = true
 
+-- an expression each of whose calls is known
 abbrev pub is_expression : Code → Bool
-is_expression (code.Expr written) = true
+is_expression (code.Expr written) = is_none written.unknown_call
 is_expression c = false
 
 abbrev pub is_calculation : Code → Bool

@@ -18,6 +18,9 @@ pub enum Reference {
 pub struct Written {
     pub references: Items<Reference>,
     pub expr: Expr,
+    /// The place, in the code's bytes, of the name of the first function that is unknown or has a wrong number of
+    /// arguments; none where each call is known. In `expr` such a call is COALESCE of all its arguments.
+    pub unknown_call: Option<u32>,
 }
 
 /// The expression of a measure of type number as it is written: each reference, counted from the left, is a measure in
@@ -26,6 +29,8 @@ pub struct Written {
 pub struct WrittenNumber {
     pub references: Items<Reference>,
     pub expr: NumExpr,
+    /// The same as of any expression.
+    pub unknown_call: Option<u32>,
 }
 
 /// What the code of a parameter says. Places count bytes in the code from 0.
@@ -35,12 +40,10 @@ pub enum Code {
     Absent,
     /// It holds Liquid, `{%` or `{{`, and is not read.
     Liquid,
-    /// It is an expression over columns and fields.
+    /// It is an expression over columns and fields, of which a call may be unknown.
     Expr(Written),
-    /// It is the expression of a measure of type number, over measures.
+    /// It is the expression of a measure of type number, over measures, of which a call may be unknown.
     Number(WrittenNumber),
     /// The text is no expression, and the place of the fault in it.
     Syntax(u32),
-    /// It calls no known function, or one with a wrong number of arguments, and the place of the function's name.
-    Call(u32),
 }

@@ -1,8 +1,7 @@
 -- What the nodes of a tree have that a text spells: as many operands as each takes, and names that are texts.
 use Rattle.std.proofs.Common.{◌≡◌, ℕ, zero, suc, ◌+◌, ◌-◌, ◌<◌, ◌≤◌, get_or, Bool, true, false, List, [], ◌∷◌, ◌++◌, length, take, drop, Option, Some, None, refl, sym, ap, ◌∙◌, subst, arith, length-append}
-use Rattle.std.specs.Prelude.{◌&&◌, nat_eq, nat_le, nat_lt, reverse, if◌then◌else◌}
+use Rattle.std.specs.Prelude.{◌&&◌, nat_le, nat_lt, reverse, if◌then◌else◌}
 use Rattle.std.specs.List.{list_all, AllByRecursion}
-use Rattle.std.specs.Option.{option_or}
 use Rattle.std.specs.Str.{is_utf8}
 use Rattle.std.proofs.lemmas.Bool.{false≢true}
 use Rattle.std.proofs.lemmas.Bool.Decides.{nat_tests}
@@ -14,36 +13,27 @@ use Rattle.lk_expr_token.specs.declared.token.Keyword.TheVariants as keyword
 use Rattle.lk_expr_token.specs.declared.token.Sign.TheVariants as sign
 use Rattle.lk_expr_token.specs.declared.token.Token.{Token}
 use Rattle.lk_expr_token.specs.declared.token.Token.TheVariants as token
-use Rattle.lk_expr_token.specs.declared.functions.Function.{Function}
-use Rattle.lk_expr_token.specs.declared.functions.Function.TheVariants as function
-use Rattle.lk_expr_token.specs.Functions.{function_of}
 use Rattle.lk_expr_token.specs.Tokens.{is_number}
 use Rattle.lk_expr_tree.specs.declared.raw.RawNode.{RawNode}
 use Rattle.lk_expr_tree.specs.declared.raw.RawNode.TheVariants as raw
 use Rattle.lk_expr_tree.specs.Grammar.{Tree, IsExprText, Number, print, print_args, print_branches, negated}
 use Rattle.lk_expr_tree.specs.RawNodes.{arity, made, operand, args_back, branches_back, args_among, branches_among, trees_of}
-use Rattle.lk_expr_tree.specs.Calls.{has_one, has_two, is_taken, place_unless, unknown_call, unknown_among, unknown_branch}
 use Rattle.lk_expr_tree.proofs.GatheredLaws.{last_of}
 use Rattle.lk_written.specs.SkeletonNodes.{is_named}
-use Rattle.lk_written.proofs.NodeForms.{takes_count, are_pairs, has_operands, is_formed}
+use Rattle.lk_written.proofs.NodeForms.{are_pairs, has_operands, is_formed}
 use Rattle.lk_written.proofs.TokenLaws.{both_true, true_both, is_real, spelled_real}
 
--- a tree of tokens that a text has, all of whose calls are known
-pub record IsGood (t : Tree) : Type 0 where
-  pub real : list_all is_real (print t) ≡ true
-  pub known : unknown_call t ≡ None
+-- a tree of tokens that a text has
+abbrev pub IsGood : Tree → Type 0
+IsGood t = list_all is_real (print t) ≡ true
 
 abbrev pub AreGood : List Tree → Type 0
-AreGood ts = AllByRecursion IsGood ts
+AreGood ts = AllByRecursion (λ t. IsGood t) ts
 
 -- ---- parts
 
 parts_real : (xs ys : List Token) → list_all is_real (xs ++ ys) ≡ true → (list_all is_real xs ≡ true) × (list_all is_real ys ≡ true)
 parts_real xs ys h = both_true (list_all is_real xs) (list_all is_real ys) (sym (list_all-append is_real xs ys) ∙ h)
-
-parts_known : (a b : Option ℕ) → option_or a b ≡ None → (a ≡ None) × (b ≡ None)
-parts_known None b h = (refl, h)
-parts_known (Some x) b h = cc
 
 good_append : (xs ys : List Tree) → AreGood xs → AreGood ys → AreGood (xs ++ ys)
 good_append [] ys g h = h
@@ -72,18 +62,17 @@ record AreArgs (rs : List Tree) : Type 0 where
   pub good : AreGood rs
   pub some : 0 < length rs
 
-args_back_good : (rs : List Tree) → list_all is_real (print_args (args_back rs)) ≡ true → unknown_among (args_back rs) ≡ None → AreArgs rs
-args_back_good [] r k = absurd (no_good r)
-args_back_good (a ∷ []) r k = record { good = (record { real = r; known = k }, tt); some = omega arith }
-args_back_good (a ∷ b ∷ rs) r k =
+args_back_good : (rs : List Tree) → list_all is_real (print_args (args_back rs)) ≡ true → AreArgs rs
+args_back_good [] r = absurd (no_good r)
+args_back_good (a ∷ []) r = record { good = (r, tt); some = omega arith }
+args_back_good (a ∷ b ∷ rs) r =
     let real = parts_real (print_args (args_back (b ∷ rs))) (token.Sign sign.Comma ∷ print a) r in
-    let known = parts_known (unknown_among (args_back (b ∷ rs))) (unknown_call a) k in
-    let rest = args_back_good (b ∷ rs) real.0 known.0 in
-    record { good = (record { real = real.1; known = known.1 }, rest.good); some = omega arith }
+    let rest = args_back_good (b ∷ rs) real.0 in
+    record { good = (real.1, rest.good); some = omega arith }
 
-args_good : (ts : List Tree) → list_all is_real (print_args (args_among ts)) ≡ true → unknown_among (args_among ts) ≡ None → AreArgs ts
-args_good ts r k =
-    let back = args_back_good (reverse ts) r k in
+args_good : (ts : List Tree) → list_all is_real (print_args (args_among ts)) ≡ true → AreArgs ts
+args_good ts r =
+    let back = args_back_good (reverse ts) r in
     record {
       good = subst AreGood (reverse-reverse ts) (good_reverse (reverse ts) back.good);
       some = omega (arith, back.some, length-reverse ts);
@@ -93,28 +82,26 @@ record AreBranches (rs : List Tree) : Type 0 where
   pub good : AreGood rs
   pub pairs : are_pairs (length rs) ≡ true
 
-branch_good : (c a : Tree) → list_all is_real (token.Word keyword.When ∷ (print c ++ token.Word keyword.Then ∷ print a)) ≡ true → option_or (unknown_call c) (unknown_call a) ≡ None → IsGood c × IsGood a
-branch_good c a r k =
+branch_good : (c a : Tree) → list_all is_real (token.Word keyword.When ∷ (print c ++ token.Word keyword.Then ∷ print a)) ≡ true → IsGood c × IsGood a
+branch_good c a r =
     let real = parts_real (print c) (token.Word keyword.Then ∷ print a) r in
-    let known = parts_known (unknown_call c) (unknown_call a) k in
-    (record { real = real.0; known = known.0 }, record { real = real.1; known = known.1 })
+    (real.0, real.1)
 
-branches_back_good : (rs : List Tree) → list_all is_real (print_branches (branches_back rs)) ≡ true → unknown_branch (branches_back rs) ≡ None → AreBranches rs
-branches_back_good [] r k = absurd (no_good (branch_good (Number []) (Number []) r k).0.real)
-branches_back_good (a ∷ []) r k = absurd (no_good (branch_good a (Number []) r k).1.real)
-branches_back_good (a ∷ c ∷ []) r k =
-    let both = branch_good c a r k in
+branches_back_good : (rs : List Tree) → list_all is_real (print_branches (branches_back rs)) ≡ true → AreBranches rs
+branches_back_good [] r = absurd (no_good (branch_good (Number []) (Number []) r).0)
+branches_back_good (a ∷ []) r = absurd (no_good (branch_good a (Number []) r).1)
+branches_back_good (a ∷ c ∷ []) r =
+    let both = branch_good c a r in
     record { good = (both.1, (both.0, tt)); pairs = refl }
-branches_back_good (a ∷ c ∷ b ∷ rs) r k =
+branches_back_good (a ∷ c ∷ b ∷ rs) r =
     let real = parts_real (print_branches (branches_back (b ∷ rs))) (token.Word keyword.When ∷ (print c ++ token.Word keyword.Then ∷ print a)) r in
-    let known = parts_known (unknown_branch (branches_back (b ∷ rs))) (option_or (unknown_call c) (unknown_call a)) k in
-    let both = branch_good c a real.1 known.1 in
-    let rest = branches_back_good (b ∷ rs) real.0 known.0 in
+    let both = branch_good c a real.1 in
+    let rest = branches_back_good (b ∷ rs) real.0 in
     record { good = (both.1, (both.0, rest.good)); pairs = rest.pairs }
 
-branches_good : (ts : List Tree) → list_all is_real (print_branches (branches_among ts)) ≡ true → unknown_branch (branches_among ts) ≡ None → AreBranches ts
-branches_good ts r k =
-    let back = branches_back_good (reverse ts) r k in
+branches_good : (ts : List Tree) → list_all is_real (print_branches (branches_among ts)) ≡ true → AreBranches ts
+branches_good ts r =
+    let back = branches_back_good (reverse ts) r in
     record {
       good = subst AreGood (reverse-reverse ts) (good_reverse (reverse ts) back.good);
       pairs = ap are_pairs (sym (length-reverse ts)) ∙ back.pairs;
@@ -122,33 +109,8 @@ branches_good ts r k =
 
 -- ---- calls
 
-one_back : (rs : List Tree) → has_one (args_back rs) ≡ nat_lt (length rs) 2
-one_back [] = refl
-one_back (a ∷ []) = refl
-one_back (a ∷ b ∷ rs) = grind (arith, nat_tests)
-
-two_back : (rs : List Tree) → has_two (args_back rs) ≡ nat_eq (length rs) 2
-two_back [] = refl
-two_back (a ∷ []) = refl
-two_back (a ∷ b ∷ []) = refl
-two_back (a ∷ b ∷ c ∷ rs) = grind (arith, nat_tests)
-
-only : (k : ℕ) → 0 < k → nat_lt k 2 ≡ true → nat_eq k 1 ≡ true
-only k some h = grind (arith, nat_tests)
-
 some_is : (k : ℕ) → 0 < k → nat_lt 0 k ≡ true
 some_is k some = grind (arith, nat_tests)
-
-taken : (f : Option Function) (ts : List Tree) → 0 < length ts → is_taken f (args_among ts) ≡ true → takes_count f (length ts) ≡ true
-taken None ts some h = h
-taken (Some function.Coalesce) ts some h = some_is (length ts) some
-taken (Some function.NullIf) ts some h = ap (λ n. nat_eq n 2) (sym (length-reverse ts)) ∙ sym (two_back (reverse ts)) ∙ h
-taken (Some function.Lower) ts some h = only (length ts) some (ap (λ n. nat_lt n 2) (sym (length-reverse ts)) ∙ sym (one_back (reverse ts)) ∙ h)
-taken (Some function.Upper) ts some h = only (length ts) some (ap (λ n. nat_lt n 2) (sym (length-reverse ts)) ∙ sym (one_back (reverse ts)) ∙ h)
-
-is_known : (b : Bool) (place : ℕ) → place_unless b place ≡ None → b ≡ true
-is_known true place h = refl
-is_known false place h = cc
 
 -- ---- a node
 
@@ -191,35 +153,28 @@ tested : (a : Tree) (n : Bool) (tokens : List Token) → list_all is_real (print
 tested a n tokens r = let parts = parts_real (print a) (negated n tokens) r in (parts.0, unnegated n tokens parts.1)
 
 lists : (n : Bool) (k : ℕ) (ts : List Tree) → length ts ≡ k → IsGood (made (raw.In n k) ts) → IsFormed (raw.In n k) ts
-lists n k [] h g = absurd (no_good (tested (Number []) n (token.Word keyword.In ∷ token.Sign sign.Open ∷ (print_args (args_among []) ++ token.Sign sign.Close ∷ [])) g.real).0)
+lists n k [] h g = absurd (no_good (tested (Number []) n (token.Word keyword.In ∷ token.Sign sign.Open ∷ (print_args (args_among []) ++ token.Sign sign.Close ∷ [])) g).0)
 lists n k (a ∷ ts) h g =
-    let real = tested a n (token.Word keyword.In ∷ token.Sign sign.Open ∷ (print_args (args_among ts) ++ token.Sign sign.Close ∷ [])) g.real in
-    let known = parts_known (unknown_call a) (unknown_among (args_among ts)) g.known in
-    let args = args_good ts (parts_real (print_args (args_among ts)) (token.Sign sign.Close ∷ []) real.1).0 known.1 in
-    record { good = (record { real = real.0; known = known.0 }, args.good); operands = more k (omega (arith, h, args.some)); named = refl }
+    let real = tested a n (token.Word keyword.In ∷ token.Sign sign.Open ∷ (print_args (args_among ts) ++ token.Sign sign.Close ∷ [])) g in
+    let args = args_good ts (parts_real (print_args (args_among ts)) (token.Sign sign.Close ∷ []) real.1).0 in
+    record { good = (real.0, args.good); operands = more k (omega (arith, h, args.some)); named = refl }
   where
     more : (k : ℕ) → 1 < k → nat_lt 1 k ≡ true
     more k some = grind (arith, nat_tests)
 
 calls : (name : List ℕ) (place k : ℕ) (ts : List Tree) → length ts ≡ k → IsGood (made (raw.Call name place k) ts) → IsFormed (raw.Call name place k) ts
 calls name place k ts h g =
-    let real = both_true (is_utf8 name) (list_all is_real (print_args (args_among ts) ++ token.Sign sign.Close ∷ [])) g.real in
-    let known = parts_known (place_unless (is_taken (function_of name) (args_among ts)) place) (unknown_among (args_among ts)) g.known in
-    let args = args_good ts (parts_real (print_args (args_among ts)) (token.Sign sign.Close ∷ []) real.1).0 known.1 in
-    record {
-      good = args.good;
-      operands = ap (takes_count (function_of name)) (sym h) ∙ taken (function_of name) ts args.some (is_known (is_taken (function_of name) (args_among ts)) place known.0);
-      named = refl;
-    }
+    let real = both_true (is_utf8 name) (list_all is_real (print_args (args_among ts) ++ token.Sign sign.Close ∷ [])) g in
+    let args = args_good ts (parts_real (print_args (args_among ts)) (token.Sign sign.Close ∷ []) real.1).0 in
+    record { good = args.good; operands = some_is k (omega (arith, h, args.some)); named = refl }
 
 with_else : (k : ℕ) (ts : List Tree) → length ts ≡ k → IsGood (made (raw.CaseElse k) ts) → IsFormed (raw.CaseElse k) ts
 with_else k ts h g =
     let bs = branches_among (take (k - 1) ts) in
     let a = operand ts (k - 1) in
-    let real = parts_real (print_branches bs) (token.Word keyword.Else ∷ (print a ++ token.Word keyword.End ∷ [])) g.real in
-    let known = parts_known (unknown_branch bs) (unknown_call a) g.known in
-    let branches = branches_good (take (k - 1) ts) real.0 known.0 in
-    let last : IsGood a = record { real = (parts_real (print a) (token.Word keyword.End ∷ []) real.1).0; known = known.1 } in
+    let real = parts_real (print_branches bs) (token.Word keyword.Else ∷ (print a ++ token.Word keyword.End ∷ [])) g in
+    let branches = branches_good (take (k - 1) ts) real.0 in
+    let last : IsGood a = (parts_real (print a) (token.Word keyword.End ∷ []) real.1).0 in
     let some : 0 < k = least ts k h branches.pairs in
     record {
       good = subst AreGood (last_of ts k h (omega arith)) (good_append (take (k - 1) ts) (a ∷ []) branches.good (last, tt));
@@ -236,38 +191,34 @@ node_formed (raw.Number number) ts h g = leaf _ ts h refl refl
 node_formed (raw.Text text) ts h g = leaf _ ts h refl refl
 node_formed (raw.Truth b) ts h g = leaf _ ts h refl refl
 node_formed raw.Null ts h g = leaf _ ts h refl refl
-node_formed (raw.Name name place) ts h g = leaf _ ts h refl (first (is_utf8 name) g.real)
-node_formed (raw.Column name) ts h g = leaf _ ts h refl (first (is_utf8 name) g.real)
-node_formed (raw.Field name) ts h g = leaf _ ts h refl (first (is_utf8 name) g.real)
-node_formed (raw.FieldOf view name) ts h g = leaf _ ts h refl (first (is_utf8 view && is_utf8 name) g.real)
+node_formed (raw.Name name place) ts h g = leaf _ ts h refl (first (is_utf8 name) g)
+node_formed (raw.Column name) ts h g = leaf _ ts h refl (first (is_utf8 name) g)
+node_formed (raw.Field name) ts h g = leaf _ ts h refl (first (is_utf8 name) g)
+node_formed (raw.FieldOf view name) ts h g = leaf _ ts h refl (first (is_utf8 view && is_utf8 name) g)
 node_formed raw.Group ts h g =
-    one_good _ ts h refl refl (record { real = (parts_real (print (operand ts 0)) (token.Sign sign.Close ∷ []) g.real).0; known = g.known })
+    one_good _ ts h refl refl (parts_real (print (operand ts 0)) (token.Sign sign.Close ∷ []) g).0
 node_formed (raw.Call name place k) ts h g = calls name place k ts h g
 node_formed (raw.Case k) ts h g =
-    let branches = branches_good ts (parts_real (print_branches (branches_among ts)) (token.Word keyword.End ∷ []) g.real).0 g.known in
+    let branches = branches_good ts (parts_real (print_branches (branches_among ts)) (token.Word keyword.End ∷ []) g).0 in
     record { good = branches.good; operands = ap are_pairs (sym h) ∙ branches.pairs; named = refl }
 node_formed (raw.CaseElse k) ts h g = with_else k ts h g
-node_formed raw.Negate ts h g = one_good _ ts h refl refl (record { real = g.real; known = g.known })
+node_formed raw.Negate ts h g = one_good _ ts h refl refl g
 node_formed (raw.Chain j) ts h g =
-    let real = parts_real (print (operand ts 0)) _ g.real in
-    let known = parts_known (unknown_call (operand ts 0)) (unknown_call (operand ts 1)) g.known in
-    two_good _ ts h refl refl (record { real = real.0; known = known.0 }) (record { real = (both_true _ (list_all is_real (print (operand ts 1))) real.1).1; known = known.1 })
+    let real = parts_real (print (operand ts 0)) _ g in
+    two_good _ ts h refl refl real.0 (both_true _ (list_all is_real (print (operand ts 1))) real.1).1
 node_formed (raw.Compare c) ts h g =
-    let real = parts_real (print (operand ts 0)) (token.Compare c ∷ print (operand ts 1)) g.real in
-    let known = parts_known (unknown_call (operand ts 0)) (unknown_call (operand ts 1)) g.known in
-    two_good _ ts h refl refl (record { real = real.0; known = known.0 }) (record { real = real.1; known = known.1 })
+    let real = parts_real (print (operand ts 0)) (token.Compare c ∷ print (operand ts 1)) g in
+    two_good _ ts h refl refl real.0 real.1
 node_formed (raw.IsNull n) ts h g =
-    one_good _ ts h refl refl (record { real = (tested (operand ts 0) false (token.Word keyword.Is ∷ negated n (token.Word keyword.Null ∷ [])) g.real).0; known = g.known })
+    one_good _ ts h refl refl (tested (operand ts 0) false (token.Word keyword.Is ∷ negated n (token.Word keyword.Null ∷ [])) g).0
 node_formed (raw.In n k) ts h g = lists n k ts h g
 node_formed (raw.Between n) ts h g =
-    let real = tested (operand ts 0) n (token.Word keyword.Between ∷ (print (operand ts 1) ++ token.Word keyword.And ∷ print (operand ts 2))) g.real in
+    let real = tested (operand ts 0) n (token.Word keyword.Between ∷ (print (operand ts 1) ++ token.Word keyword.And ∷ print (operand ts 2))) g in
     let bounds = parts_real (print (operand ts 1)) (token.Word keyword.And ∷ print (operand ts 2)) real.1 in
-    let known = parts_known (unknown_call (operand ts 0)) (option_or (unknown_call (operand ts 1)) (unknown_call (operand ts 2))) g.known in
-    let others = parts_known (unknown_call (operand ts 1)) (unknown_call (operand ts 2)) known.1 in
-    three_good _ ts h refl refl (record { real = real.0; known = known.0 }) (record { real = bounds.0; known = others.0 }) (record { real = bounds.1; known = others.1 })
+    three_good _ ts h refl refl real.0 bounds.0 bounds.1
 node_formed (raw.Like n text) ts h g =
-    one_good _ ts h refl refl (record { real = (tested (operand ts 0) n (token.Word keyword.Like ∷ token.Text text ∷ []) g.real).0; known = g.known })
-node_formed raw.Not ts h g = one_good _ ts h refl refl (record { real = g.real; known = g.known })
+    one_good _ ts h refl refl (tested (operand ts 0) n (token.Word keyword.Like ∷ token.Text text ∷ []) g).0
+node_formed raw.Not ts h g = one_good _ ts h refl refl g
 
 -- ---- all nodes
 
@@ -298,9 +249,9 @@ nodes_formed stack e (n ∷ ns) h g =
 pub all_formed : (ns : List RawNode) (t : Tree) → trees_of ns ≡ t ∷ [] → depth_after arity 0 ns ≡ Some 1 → IsGood t → list_all is_formed ns ≡ true
 all_formed ns t one whole good = (nodes_formed [] 1 ns whole (subst AreGood (sym one) (good, tt))).1
 
--- a tree that a text spells, all of whose calls are known
-pub good_of : (e : Tree) (text : List ℕ) → IsExprText e text → unknown_call e ≡ None → IsGood e
-good_of e text spelled known = record { real = spelled_real (length text) (print e) text spelled.spelled; known = known }
+-- a tree that a text spells
+pub good_of : (e : Tree) (text : List ℕ) → IsExprText e text → IsGood e
+good_of e text spelled = spelled_real (length text) (print e) text spelled.spelled
 
 -- one node of all
 pub at_place : (test : RawNode → Bool) (ns : List RawNode) (i : ℕ) (n : RawNode) → i < length ns → n ≡ get_or ns i n → list_all test ns ≡ true → test n ≡ true

@@ -1,7 +1,8 @@
 -- What each node of a measure adds to the list of nodes: the expression of its tree, in place of those of its operands.
-use Rattle.std.proofs.Common.{◌≡◌, ℕ, ◌+◌, ◌<◌, true, List, [], ◌∷◌, ◌++◌, length, Option, Some, None, refl, sym, ap, ◌∙◌, subst, arith}
-use Rattle.std.specs.Prelude.{nat_eq, nat_lt, is_some, Result, Ok, Err}
+use Rattle.std.proofs.Common.{◌≡◌, ℕ, ◌+◌, ◌<◌, true, false, List, [], ◌∷◌, ◌++◌, length, Option, Some, None, refl, sym, ap, ◌∙◌, subst, arith}
+use Rattle.std.specs.Prelude.{suc, nat_eq, nat_lt, if◌then◌else◌, is_some, Result, Ok, Err}
 use Rattle.std.proofs.lemmas.Bool.{false≢true}
+use Rattle.std.proofs.lemmas.Bool.Decides.{nat_tests}
 use Rattle.std.proofs.lemmas.List.{append-nil}
 use Rattle.lk_postfix.specs.Postfix.{Builds}
 use Rattle.lk_postfix.proofs.PostfixLaws.{Builds-node}
@@ -16,7 +17,7 @@ use Rattle.lk_types.specs.declared.number.NumNode.{NumNode}
 use Rattle.lk_types.specs.declared.number.NumNode.TheVariants as node
 use Rattle.lk_expr_token.specs.declared.functions.Function.{Function}
 use Rattle.lk_expr_token.specs.declared.functions.Function.TheVariants as function
-use Rattle.lk_expr_token.specs.Functions.{function_of, is_of_measures}
+use Rattle.lk_expr_token.specs.Functions.{function_of}
 use Rattle.lk_expr_tree.specs.declared.raw.Joint.{Joint}
 use Rattle.lk_expr_tree.specs.declared.raw.Joint.TheVariants as joint
 use Rattle.lk_expr_tree.specs.declared.raw.RawNode.{RawNode}
@@ -27,7 +28,7 @@ use Rattle.lk_expr_tree.specs.RawNodes.{arity, made, operand, args_among}
 use Rattle.lk_written.specs.References.{count}
 use Rattle.lk_written.specs.Calculations.{measure_skeleton, measure_skeletons, number_of, joined, called}
 use Rattle.lk_written.specs.MeasureNodes.{measure_nodes, joint_arithmetic, number_node, call_node, joint_node}
-use Rattle.lk_written.proofs.NodeForms.{has_operands, takes_count, is_of_measure, takes_measures}
+use Rattle.lk_written.proofs.NodeForms.{has_operands, is_of_measure}
 use Rattle.lk_written.proofs.Numbered.{numbered, length-numbered, args-numbered, total}
 
 -- the nodes build these expressions
@@ -90,26 +91,40 @@ test_lt m n h = grind arith
 arguments : (c : ℕ) (ts : List Tree) → 0 < length ts → numbered measure_skeleton c ts ≡ measure_skeletons c (args_among ts)
 arguments c ts some = sym (args-numbered measure_skeleton measure_skeletons (λ n a. refl) (λ n args a. refl) c ts some)
 
-of_two : (xs : List Calculation) → length xs ≡ 2 → nodes.made node.NullIf xs ≡ called (Some function.NullIf) xs
-of_two [] h = absurd (omega arith)
-of_two (x ∷ []) h = absurd (omega arith)
-of_two (x ∷ y ∷ []) h = refl
-of_two (x ∷ y ∷ z ∷ xs) h = absurd (omega arith)
+-- a call of so many arguments, which stands as COALESCE where they are not as many as the function takes
+call_arity : (f : Option Function) (k : ℕ) → k ≡ nodes.arity (call_node f k)
+call_arity None k = refl
+call_arity (Some function.Coalesce) k = refl
+call_arity (Some function.NullIf) k =
+    elim (nat_eq k 2) as (λ b. nat_eq k 2 ≡ b → k ≡ nodes.arity (if b then node.NullIf else node.Coalesce k)) [
+      | true ↦ λ h. test_eq k 2 h
+      | false ↦ λ h. refl
+    ] refl
+call_arity (Some function.Lower) k = refl
+call_arity (Some function.Upper) k = refl
 
-calls : (f : Option Function) (k c : ℕ) (ts : List Tree) (out : List NumNode) (low : List Calculation) → length ts ≡ k → takes_measures f k ≡ true → Makes out (low ++ numbered measure_skeleton c ts)
+not_two : (n : ℕ) → nat_eq (suc (suc (suc n))) 2 ≡ false
+not_two n = grind (arith, nat_tests)
+
+call_made : (f : Option Function) (xs : List Calculation) → nodes.made (call_node f (length xs)) xs ≡ called f xs
+call_made None xs = refl
+call_made (Some function.Coalesce) xs = refl
+call_made (Some function.NullIf) [] = refl
+call_made (Some function.NullIf) (x ∷ []) = refl
+call_made (Some function.NullIf) (x ∷ y ∷ []) = refl
+call_made (Some function.NullIf) (x ∷ y ∷ z ∷ xs) =
+    ap (λ b. nodes.made (if b then node.NullIf else node.Coalesce (length (x ∷ y ∷ z ∷ xs))) (x ∷ y ∷ z ∷ xs)) (not_two (length xs))
+call_made (Some function.Lower) xs = refl
+call_made (Some function.Upper) xs = refl
+
+calls : (f : Option Function) (k c : ℕ) (ts : List Tree) (out : List NumNode) (low : List Calculation) → length ts ≡ k → nat_lt 0 k ≡ true → Makes out (low ++ numbered measure_skeleton c ts)
     → Makes (out ++ call_node f k ∷ []) (low ++ called f (measure_skeletons c (args_among ts)) ∷ [])
-calls None k c ts out low h takes b = absurd (false≢true takes)
-calls (Some function.Lower) k c ts out low h takes b = absurd (false≢true takes)
-calls (Some function.Upper) k c ts out low h takes b = absurd (false≢true takes)
-calls (Some function.Coalesce) k c ts out low h takes b =
+calls f k c ts out low h takes b =
+    let many = length-numbered measure_skeleton c ts ∙ h in
     let some : 0 < length ts = omega (arith, test_lt 0 k takes) in
-    last_is _ low _ _ (ap (λ es. calculation.Coalesce (calculations_of es)) (arguments c ts some))
-    (more out low (numbered measure_skeleton c ts) (node.Coalesce k) b (length-numbered measure_skeleton c ts ∙ h))
-calls (Some function.NullIf) k c ts out low h takes b =
-    let many : length (numbered measure_skeleton c ts) ≡ 2 = length-numbered measure_skeleton c ts ∙ h ∙ test_eq k 2 takes in
-    let some : 0 < length ts = omega (arith, test_eq k 2 takes) in
-    last_is _ low _ _ (of_two (numbered measure_skeleton c ts) many ∙ ap (called (Some function.NullIf)) (arguments c ts some))
-    (more out low (numbered measure_skeleton c ts) node.NullIf b many)
+    last_is _ low _ _
+    (ap (λ m. nodes.made (call_node f m) (numbered measure_skeleton c ts)) (sym many) ∙ call_made f (numbered measure_skeleton c ts) ∙ ap (called f) (arguments c ts some))
+    (more out low (numbered measure_skeleton c ts) (call_node f k) b (many ∙ call_arity f k))
 
 -- a node of a measure that has its operands
 pub of_measure : (n : RawNode) → is_measure_node n ≡ true → has_operands n ≡ true → is_of_measure n ≡ true
@@ -117,14 +132,7 @@ of_measure (raw.Number number) m h = refl
 of_measure (raw.Field name) m h = refl
 of_measure (raw.FieldOf view name) m h = refl
 of_measure raw.Group m h = refl
-of_measure (raw.Call name place k) m h = call_of_measure (function_of name) m h
-  where
-    call_of_measure : (f : Option Function) → is_of_measures f ≡ true → takes_count f k ≡ true → takes_measures f k ≡ true
-    call_of_measure None m h = absurd (false≢true m)
-    call_of_measure (Some function.Coalesce) m h = h
-    call_of_measure (Some function.NullIf) m h = h
-    call_of_measure (Some function.Lower) m h = absurd (false≢true m)
-    call_of_measure (Some function.Upper) m h = absurd (false≢true m)
+of_measure (raw.Call name place k) m h = h
 of_measure raw.Negate m h = refl
 of_measure (raw.Chain joint.Plus) m h = refl
 of_measure (raw.Chain joint.Minus) m h = refl

@@ -1,20 +1,9 @@
--- What each node has of a tree that a text spells, all of whose calls are known.
-use Rattle.std.specs.Prelude.{ℕ, zero, suc, ◌-◌, Bool, true, false, ◌&&◌, nat_eq, nat_lt, Option, Some, None, is_some}
-use Rattle.lk_expr_token.specs.declared.functions.Function.{Function}
-use Rattle.lk_expr_token.specs.declared.functions.Function.TheVariants as function
-use Rattle.lk_expr_token.specs.Functions.{function_of}
+-- What each node has of a tree that a text spells.
+use Rattle.std.specs.Prelude.{ℕ, zero, suc, ◌-◌, Bool, true, false, ◌&&◌, nat_lt, is_some}
 use Rattle.lk_expr_tree.specs.declared.raw.RawNode.{RawNode}
 use Rattle.lk_expr_tree.specs.declared.raw.RawNode.TheVariants as raw
 use Rattle.lk_written.specs.SkeletonNodes.{is_named}
 use Rattle.lk_written.specs.MeasureNodes.{joint_arithmetic}
-
--- the function takes so many arguments
-abbrev pub takes_count : Option Function → ℕ → Bool
-takes_count None count = false
-takes_count (Some function.Coalesce) count = nat_lt 0 count
-takes_count (Some function.NullIf) count = nat_eq count 2
-takes_count (Some function.Lower) count = nat_eq count 1
-takes_count (Some function.Upper) count = nat_eq count 1
 
 -- so many are one pair or more
 abbrev pub are_pairs : ℕ → Bool
@@ -25,7 +14,7 @@ are_pairs (suc (suc (suc n))) = are_pairs (suc n)
 
 -- the node has as many operands as one of its kind has
 abbrev pub has_operands : RawNode → Bool
-has_operands (raw.Call name place count) = takes_count (function_of name) count
+has_operands (raw.Call name place count) = nat_lt 0 count
 has_operands (raw.Case count) = are_pairs count
 has_operands (raw.CaseElse count) = are_pairs (count - 1)
 has_operands (raw.In negated count) = nat_lt 1 count
@@ -37,21 +26,13 @@ is_formed n = has_operands n && is_named n
 
 -- ---- measures
 
--- the function is one of measures, and takes so many arguments
-abbrev pub takes_measures : Option Function → ℕ → Bool
-takes_measures None count = false
-takes_measures (Some function.Coalesce) count = nat_lt 0 count
-takes_measures (Some function.NullIf) count = nat_eq count 2
-takes_measures (Some function.Lower) count = false
-takes_measures (Some function.Upper) count = false
-
 -- the node may stand in a measure, and has as many operands as one of its kind has
 abbrev pub is_of_measure : RawNode → Bool
 is_of_measure (raw.Number number) = true
 is_of_measure (raw.Field name) = true
 is_of_measure (raw.FieldOf view name) = true
 is_of_measure raw.Group = true
-is_of_measure (raw.Call name place count) = takes_measures (function_of name) count
+is_of_measure (raw.Call name place count) = nat_lt 0 count
 is_of_measure raw.Negate = true
 is_of_measure (raw.Chain j) = is_some (joint_arithmetic j)
 is_of_measure other = false

@@ -9,9 +9,8 @@ use Rattle.lk_grammar.specs.Tokens.{tokens_of}
 use Rattle.lk_expr_token.specs.declared.token.Token.{Token}
 use Rattle.lk_expr_token.specs.Tokens.{IsSpelled, white}
 use Rattle.lk_expr_token.specs.Lexing.{first_token}
-use Rattle.lk_expr_token.proofs.LexSteps.{no_some, together}
+use Rattle.lk_expr_token.proofs.LexSteps.{together}
 use Rattle.lk_expr_token.proofs.TextLaws.{result_every}
-use Rattle.lk_expr_tree.specs.Calls.{unknown_call}
 use Rattle.lk_expr_tree.specs.Grammar.{Tree, IsExprText, is_built, level_of, print}
 use Rattle.lk_expr_text.specs.Parsing.{all_of, tree_in}
 use Rattle.lk_expr_text.proofs.ParseFound.{tree_found}
@@ -24,7 +23,7 @@ use Rattle.lk_objects.specs.declared.code.Code.{Code}
 use Rattle.lk_objects.specs.declared.code.Code.TheVariants as code
 use Rattle.lk_written.specs.Skeletons.{written_of}
 use Rattle.lk_written.specs.Calculations.{written_number_of}
-use Rattle.lk_written.specs.Codes.{IsCode, IsLiquidOr, IsReading, IsCallFault, IsSyntaxFault, grammar_of}
+use Rattle.lk_written.specs.Codes.{IsCode, IsLiquidOr, IsReading, IsSyntaxFault, grammar_of}
 
 -- ---- trees
 
@@ -71,35 +70,22 @@ module _ (g : Grammar) (text : List ℕ) where
   one_syntax : (p q : ℕ) → IsSyntaxFault g text p → IsSyntaxFault g text q → code.Syntax p ≡ code.Syntax q
   one_syntax p q h i = ap code.Syntax (one_place (IsOfGrammar g) text p q h.1 i.1)
 
-  one_call : (p q : ℕ) → IsCallFault g text p → IsCallFault g text q → code.Call p ≡ code.Call q
-  one_call p q h i = ap code.Call (same_Some p q (sym h.2 ∙ ap unknown_call (one_tree g text h.0 i.0 h.1 i.1) ∙ i.2))
-
-  -- a tree is no fault, and a call is no fault of syntax
+  -- a tree has no fault of syntax
   no_syntax : (e : Tree) (p : ℕ) → IsTreeText g e text → IsSyntaxFault g text p → ⊥
   no_syntax e p h i = i.0 (e, h)
-
-  no_call : (e : Tree) (p : ℕ) → IsTreeText g e text → unknown_call e ≡ None → IsCallFault g text p → ⊥
-  no_call e p h known i = no_some p (sym known ∙ ap unknown_call (one_tree g text e i.0 h i.1) ∙ i.2)
 
 -- ---- codes
 
 one_reading : (g : Grammar) (text : List ℕ) (c d : Code) → IsReading g text c → IsReading g text d → c ≡ d
 one_reading Expressions text (code.Expr a) (code.Expr b) h i =
-    ap code.Expr (h.2 ∙ ap written_of (one_tree Expressions text h.0 i.0 h.1.0 i.1.0) ∙ sym i.2)
-one_reading Expressions text (code.Expr a) (code.Syntax q) h i = absurd (no_syntax Expressions text h.0 q h.1.0 i)
-one_reading Expressions text (code.Expr a) (code.Call q) h i = absurd (no_call Expressions text h.0 q h.1.0 h.1.1 i)
-one_reading Expressions text (code.Syntax p) (code.Expr b) h i = absurd (no_syntax Expressions text i.0 p i.1.0 h)
-one_reading Expressions text (code.Call p) (code.Expr b) h i = absurd (no_call Expressions text i.0 p i.1.0 i.1.1 h)
+    ap code.Expr (h.2 ∙ ap written_of (one_tree Expressions text h.0 i.0 h.1 i.1) ∙ sym i.2)
+one_reading Expressions text (code.Expr a) (code.Syntax q) h i = absurd (no_syntax Expressions text h.0 q h.1 i)
+one_reading Expressions text (code.Syntax p) (code.Expr b) h i = absurd (no_syntax Expressions text i.0 p i.1 h)
 one_reading Measures text (code.Number a) (code.Number b) h i =
-    ap code.Number (h.2 ∙ ap written_number_of (one_tree Measures text h.0 i.0 h.1.0 i.1.0) ∙ sym i.2)
-one_reading Measures text (code.Number a) (code.Syntax q) h i = absurd (no_syntax Measures text h.0 q h.1.0 i)
-one_reading Measures text (code.Number a) (code.Call q) h i = absurd (no_call Measures text h.0 q h.1.0 h.1.1 i)
-one_reading Measures text (code.Syntax p) (code.Number b) h i = absurd (no_syntax Measures text i.0 p i.1.0 h)
-one_reading Measures text (code.Call p) (code.Number b) h i = absurd (no_call Measures text i.0 p i.1.0 i.1.1 h)
+    ap code.Number (h.2 ∙ ap written_number_of (one_tree Measures text h.0 i.0 h.1 i.1) ∙ sym i.2)
+one_reading Measures text (code.Number a) (code.Syntax q) h i = absurd (no_syntax Measures text h.0 q h.1 i)
+one_reading Measures text (code.Syntax p) (code.Number b) h i = absurd (no_syntax Measures text i.0 p i.1 h)
 one_reading g text (code.Syntax p) (code.Syntax q) h i = one_syntax g text p q h i
-one_reading g text (code.Syntax p) (code.Call q) h i = absurd (no_syntax g text i.0 p i.1 h)
-one_reading g text (code.Call p) (code.Syntax q) h i = absurd (no_syntax g text h.0 q h.1 i)
-one_reading g text (code.Call p) (code.Call q) h i = one_call g text p q h i
 one_reading g text code.Absent d h i = absurd h
 one_reading g text code.Liquid d h i = absurd h
 one_reading Expressions text (code.Number a) d h i = absurd h

@@ -1,7 +1,8 @@
 -- What each node adds to the list of nodes: the expression of its tree, in place of those of its operands.
 use Rattle.std.proofs.Common.{◌≡◌, ℕ, zero, suc, ◌+◌, ◌-◌, ◌<◌, Bool, true, false, List, [], ◌∷◌, ◌++◌, length, take, drop, Option, Some, None, refl, sym, ap, ◌∙◌, subst, arith, append_assoc}
-use Rattle.std.specs.Prelude.{nat_eq, nat_lt}
+use Rattle.std.specs.Prelude.{nat_eq, nat_lt, if◌then◌else◌}
 use Rattle.std.proofs.lemmas.Bool.{false≢true}
+use Rattle.std.proofs.lemmas.Bool.Decides.{nat_tests}
 use Rattle.std.proofs.lemmas.List.{append-nil, length-take-le}
 use Rattle.lk_postfix.specs.Postfix.{Builds}
 use Rattle.lk_postfix.proofs.PostfixLaws.{Builds-node}
@@ -24,7 +25,7 @@ use Rattle.lk_expr_tree.proofs.GatheredLaws.{last_of}
 use Rattle.lk_written.specs.References.{references_among, count}
 use Rattle.lk_written.specs.Skeletons.{skeleton, skeletons, branch_skeletons, unless, joined, called}
 use Rattle.lk_written.specs.SkeletonNodes.{skeleton_nodes, denied, joint_node, call_node}
-use Rattle.lk_written.proofs.NodeForms.{has_operands, takes_count, are_pairs}
+use Rattle.lk_written.proofs.NodeForms.{has_operands, are_pairs}
 use Rattle.lk_written.proofs.Numbered.{numbered, length-numbered, numbered-append, args-numbered, branches-numbered, branches_references, total}
 
 -- the nodes build these expressions
@@ -112,47 +113,56 @@ test_eq m n h = grind arith
 test_lt : (m n : ℕ) → nat_lt m n ≡ true → m < n
 test_lt m n h = grind arith
 
-call_some : (f : Option Function) (k : ℕ) → takes_count f k ≡ true → 0 < k
-call_some None k h = absurd (false≢true h)
-call_some (Some function.Coalesce) k h = test_lt 0 k h
-call_some (Some function.NullIf) k h = omega (arith, test_eq k 2 h)
-call_some (Some function.Lower) k h = omega (arith, test_eq k 1 h)
-call_some (Some function.Upper) k h = omega (arith, test_eq k 1 h)
+-- a call of so many arguments, which has as many operands where they are those that the function takes, and all of them
+-- where it stands as COALESCE
+takes_if : (n : Node) (k m : ℕ) → nodes.arity n ≡ m → k ≡ nodes.arity (if nat_eq k m then n else node.Coalesce k)
+takes_if n k m is =
+    elim (nat_eq k m) as (λ b. nat_eq k m ≡ b → k ≡ nodes.arity (if b then n else node.Coalesce k)) [
+      | true ↦ λ h. test_eq k m h ∙ sym is
+      | false ↦ λ h. refl
+    ] refl
 
-call_arity : (f : Option Function) (k : ℕ) → takes_count f k ≡ true → k ≡ nodes.arity (call_node f k)
-call_arity None k h = refl
-call_arity (Some function.Coalesce) k h = refl
-call_arity (Some function.NullIf) k h = test_eq k 2 h
-call_arity (Some function.Lower) k h = test_eq k 1 h
-call_arity (Some function.Upper) k h = test_eq k 1 h
+call_arity : (f : Option Function) (k : ℕ) → k ≡ nodes.arity (call_node f k)
+call_arity None k = refl
+call_arity (Some function.Coalesce) k = refl
+call_arity (Some function.NullIf) k = takes_if node.NullIf k 2 refl
+call_arity (Some function.Lower) k = takes_if node.Lower k 1 refl
+call_arity (Some function.Upper) k = takes_if node.Upper k 1 refl
 
-of_one : (g : Option Function) (n : Node) (xs : List Formula) → length xs ≡ 1 → ((x : Formula) → nodes.made n (x ∷ []) ≡ called g (x ∷ [])) → nodes.made n xs ≡ called g xs
-of_one g n [] h is = absurd (omega arith)
-of_one g n (x ∷ []) h is = is x
-of_one g n (x ∷ y ∷ xs) h is = absurd (omega arith)
+not_two : (n : ℕ) → nat_eq (suc (suc (suc n))) 2 ≡ false
+not_two n = grind (arith, nat_tests)
 
-of_two : (xs : List Formula) → length xs ≡ 2 → nodes.made node.NullIf xs ≡ called (Some function.NullIf) xs
-of_two [] h = absurd (omega arith)
-of_two (x ∷ []) h = absurd (omega arith)
-of_two (x ∷ y ∷ []) h = refl
-of_two (x ∷ y ∷ z ∷ xs) h = absurd (omega arith)
+not_one : (n : ℕ) → nat_eq (suc (suc n)) 1 ≡ false
+not_one n = grind (arith, nat_tests)
 
-call_made : (f : Option Function) (k : ℕ) (xs : List Formula) → takes_count f k ≡ true → length xs ≡ k → nodes.made (call_node f k) xs ≡ called f xs
-call_made None k xs h many = absurd (false≢true h)
-call_made (Some function.Coalesce) k xs h many = refl
-call_made (Some function.NullIf) k xs h many = of_two xs (many ∙ test_eq k 2 h)
-call_made (Some function.Lower) k xs h many = of_one (Some function.Lower) node.Lower xs (many ∙ test_eq k 1 h) (λ x. refl)
-call_made (Some function.Upper) k xs h many = of_one (Some function.Upper) node.Upper xs (many ∙ test_eq k 1 h) (λ x. refl)
+-- more arguments than a function takes
+beyond : (n : Node) (b : Bool) (xs : List Formula) → b ≡ false → nodes.made (if b then n else node.Coalesce (length xs)) xs ≡ formula.Coalesce (formulas_of xs)
+beyond n b xs h = ap (λ c. nodes.made (if c then n else node.Coalesce (length xs)) xs) h
 
-calls : (f : Option Function) (k c : ℕ) (ts : List Tree) (out : List Node) (low : List Formula) → length ts ≡ k → takes_count f k ≡ true → Makes out (low ++ numbered skeleton c ts)
+call_made : (f : Option Function) (xs : List Formula) → nodes.made (call_node f (length xs)) xs ≡ called f xs
+call_made None xs = refl
+call_made (Some function.Coalesce) xs = refl
+call_made (Some function.NullIf) [] = refl
+call_made (Some function.NullIf) (x ∷ []) = refl
+call_made (Some function.NullIf) (x ∷ y ∷ []) = refl
+call_made (Some function.NullIf) (x ∷ y ∷ z ∷ xs) = beyond node.NullIf (nat_eq (length (x ∷ y ∷ z ∷ xs)) 2) (x ∷ y ∷ z ∷ xs) (not_two (length xs))
+call_made (Some function.Lower) [] = refl
+call_made (Some function.Lower) (x ∷ []) = refl
+call_made (Some function.Lower) (x ∷ y ∷ xs) = beyond node.Lower (nat_eq (length (x ∷ y ∷ xs)) 1) (x ∷ y ∷ xs) (not_one (length xs))
+call_made (Some function.Upper) [] = refl
+call_made (Some function.Upper) (x ∷ []) = refl
+call_made (Some function.Upper) (x ∷ y ∷ xs) = beyond node.Upper (nat_eq (length (x ∷ y ∷ xs)) 1) (x ∷ y ∷ xs) (not_one (length xs))
+
+calls : (f : Option Function) (k c : ℕ) (ts : List Tree) (out : List Node) (low : List Formula) → length ts ≡ k → nat_lt 0 k ≡ true → Makes out (low ++ numbered skeleton c ts)
     → Makes (out ++ call_node f k ∷ []) (low ++ called f (skeletons c (args_among ts)) ∷ [])
 calls f k c ts out low h takes b =
     let many = length-numbered skeleton c ts ∙ h in
-    let some : 0 < length ts = omega (arith, call_some f k takes) in
+    let some : 0 < length ts = omega (arith, test_lt 0 k takes) in
     last_is _ low _ _
-    (call_made f k (numbered skeleton c ts) takes many
+    (ap (λ m. nodes.made (call_node f m) (numbered skeleton c ts)) (sym many)
+    ∙ call_made f (numbered skeleton c ts)
     ∙ ap (called f) (sym (args-numbered skeleton skeletons (λ n a. refl) (λ n args a. refl) c ts some)))
-    (more out low (numbered skeleton c ts) (call_node f k) b (many ∙ call_arity f k takes))
+    (more out low (numbered skeleton c ts) (call_node f k) b (many ∙ call_arity f k))
 
 lists : (negated : Bool) (k c : ℕ) (ts : List Tree) (out : List Node) (low : List Formula) → length ts ≡ k → nat_lt 1 k ≡ true → Makes out (low ++ numbered skeleton c ts)
     → Makes (out ++ denied negated (node.In k)) (low ++ unless negated (formula.In (skeleton c (operand ts 0)) (formulas_of (skeletons (c + count (operand ts 0)) (args_among (drop 1 ts))))) ∷ [])

@@ -1,6 +1,6 @@
 -- The expression of a measure of type number with numbers in place of its names: each name, counted from the left, is
 -- the measure of that number. (Looker, LookML reference: measure types, number; lookd)
-use Rattle.std.specs.Prelude.{ℕ, ◌+◌, List, [], ◌∷◌, ◌++◌, Option, Some, Result, Ok, Err}
+use Rattle.std.specs.Prelude.{ℕ, ◌+◌, List, [], ◌∷◌, ◌++◌, Option, Some, None, Result, Ok, Err}
 use Rattle.lk_val.specs.Numbers.{num_of}
 use Rattle.lk_val.specs.declared.num.Num.{Num}
 use Rattle.lk_val.specs.declared.num.NumFault.{NumFault}
@@ -13,6 +13,7 @@ use Rattle.lk_expr_token.specs.declared.functions.Function.TheVariants as functi
 use Rattle.lk_expr_token.specs.Functions.{function_of}
 use Rattle.lk_expr_tree.specs.declared.raw.Joint.{Joint}
 use Rattle.lk_expr_tree.specs.declared.raw.Joint.TheVariants as joint
+use Rattle.lk_expr_tree.specs.Calls.{unknown_call}
 use Rattle.lk_expr_tree.specs.Grammar.{Tree, Number, Field, FieldOf, Group, Call, Negate, Chain, Args, one, more}
 use Rattle.lk_objects.specs.declared.code.WrittenNumber.{WrittenNumber}
 use Rattle.lk_written.specs.References.{references_of, count, count_in}
@@ -33,11 +34,13 @@ joined joint.Times a b = calculation.Apply arithmetic.Times a b
 joined joint.Over a b = calculation.Apply arithmetic.Over a b
 joined j a b = nothing
 
--- a function of its arguments, as many as it takes; a tree that is read has no other calls
+-- a function of its arguments. A call with a wrong number of them stands as COALESCE of all, which has as many nodes; a
+-- measure has no call of another function
 abbrev pub called : Option Function → List Calculation → Calculation
+called None args = calculation.Coalesce (calculations_of args)
 called (Some function.Coalesce) args = calculation.Coalesce (calculations_of args)
 called (Some function.NullIf) (a ∷ b ∷ []) = calculation.NullIf a b
-called f args = nothing
+called f args = calculation.Coalesce (calculations_of args)
 
 abbrev mutual
   -- the expression of a tree, whose first name has this number; brackets leave no trace
@@ -56,6 +59,6 @@ abbrev mutual
   measure_skeletons n (one a) = measure_skeleton n a ∷ []
   measure_skeletons n (more args a) = measure_skeletons n args ++ measure_skeleton (n + count_in args) a ∷ []
 
--- an expression as it is written: its names, and the tree over their numbers
+-- an expression as it is written: its names, the tree over their numbers, and where its first unknown call stands
 abbrev pub written_number_of : Tree → WrittenNumber
-written_number_of a = record { references = references_of a; expr = measure_skeleton 0 a }
+written_number_of a = record { references = references_of a; expr = measure_skeleton 0 a; unknown_call = unknown_call a }

@@ -1,7 +1,6 @@
 -- What the text of code is read as. (Looker, LookML reference: sql, sql_distinct_key, sql_on, sql_always_where; lookd)
 use Rattle.std.specs.Prelude.{◌≡◌, ℕ, Bool, true, false, List, Option, Some, None}
 use Rattle.lk_params.specs.Known.{holds_liquid}
-use Rattle.lk_expr_tree.specs.Calls.{unknown_call}
 use Rattle.lk_expr_tree.specs.Grammar.{Tree}
 use Rattle.lk_expr_place.specs.declared.judging.Grammar.{Grammar}
 use Rattle.lk_expr_place.specs.declared.judging.Grammar.TheVariants.{Expressions, Measures}
@@ -12,24 +11,16 @@ use Rattle.lk_objects.specs.declared.code.Code.TheVariants as code
 use Rattle.lk_written.specs.Skeletons.{written_of}
 use Rattle.lk_written.specs.Calculations.{written_number_of}
 
--- the text spells the tree, and each of its calls is known
-abbrev pub IsKnownText : Grammar → Tree → List ℕ → Type 0
-IsKnownText g e text = IsTreeText g e text × (unknown_call e ≡ None)
-
 -- the text spells no tree, and the fault is there
 abbrev pub IsSyntaxFault : Grammar → List ℕ → ℕ → Type 0
 IsSyntaxFault g text place = (IsOfGrammar g text → ⊥) × IsSyntaxPlace (IsOfGrammar g) text place
 
--- the text spells a tree whose first unknown call is there
-abbrev pub IsCallFault : Grammar → List ℕ → ℕ → Type 0
-IsCallFault g text place = (e : Tree) × IsTreeText g e text × (unknown_call e ≡ Some place)
-
--- a text without Liquid: the expression that it spells, as it is written, or its fault
+-- a text without Liquid: the expression that it spells, as it is written, whose calls may be unknown, or the fault of its
+-- syntax
 abbrev pub IsReading : Grammar → List ℕ → Code → Type 0
-IsReading Expressions text (code.Expr written) = (e : Tree) × IsKnownText Expressions e text × (written ≡ written_of e)
-IsReading Measures text (code.Number written) = (e : Tree) × IsKnownText Measures e text × (written ≡ written_number_of e)
+IsReading Expressions text (code.Expr written) = (e : Tree) × IsTreeText Expressions e text × (written ≡ written_of e)
+IsReading Measures text (code.Number written) = (e : Tree) × IsTreeText Measures e text × (written ≡ written_number_of e)
 IsReading g text (code.Syntax place) = IsSyntaxFault g text place
-IsReading g text (code.Call place) = IsCallFault g text place
 IsReading g text c = ⊥
 
 -- a text that holds Liquid is not read

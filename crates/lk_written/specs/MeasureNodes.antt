@@ -1,5 +1,5 @@
 -- How the expression of a measure of type number is found: what each node of a tree adds to the list of nodes.
-use Rattle.std.specs.Prelude.{ℕ, List, [], ◌∷◌, Option, Some, None, Result, Ok, Err}
+use Rattle.std.specs.Prelude.{ℕ, nat_eq, if◌then◌else◌, List, [], ◌∷◌, Option, Some, None, Result, Ok, Err}
 use Rattle.lk_val.specs.Numbers.{num_of}
 use Rattle.lk_val.specs.declared.num.Num.{Num}
 use Rattle.lk_val.specs.declared.num.NumFault.{NumFault}
@@ -30,10 +30,11 @@ abbrev pub number_node : Result Num NumFault → NumNode
 number_node (Ok n) = node.Literal n
 number_node (Err e) = node.Coalesce 0
 
+-- a call of so many arguments, which stands as COALESCE where they are not as many as the function takes
 abbrev pub call_node : Option Function → ℕ → NumNode
 call_node None count = node.Coalesce count
 call_node (Some function.Coalesce) count = node.Coalesce count
-call_node (Some function.NullIf) count = node.NullIf
+call_node (Some function.NullIf) count = if nat_eq count 2 then node.NullIf else node.Coalesce count
 call_node (Some function.Lower) count = node.Coalesce count
 call_node (Some function.Upper) count = node.Coalesce count
 

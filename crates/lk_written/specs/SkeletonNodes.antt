@@ -1,5 +1,5 @@
 -- How an expression with numbers in place of its names is found: what each node of a tree adds to the list of nodes.
-use Rattle.std.specs.Prelude.{ℕ, Bool, true, false, ◌&&◌, List, [], ◌∷◌, Option, Some, None}
+use Rattle.std.specs.Prelude.{ℕ, nat_eq, Bool, true, false, ◌&&◌, if◌then◌else◌, List, [], ◌∷◌, Option, Some, None}
 use Rattle.std.specs.Str.{is_utf8}
 use Rattle.lk_val.specs.Numbers.{num_of}
 use Rattle.lk_val.specs.declared.value.Value.TheVariants as value
@@ -48,12 +48,13 @@ joint_node joint.Concat = node.Concat
 joint_node joint.Times = node.Number arithmetic.Times
 joint_node joint.Over = node.Number arithmetic.Over
 
+-- a call of so many arguments, which stands as COALESCE where they are not as many as the function takes
 abbrev pub call_node : Option Function → ℕ → Node
 call_node None count = node.Coalesce count
 call_node (Some function.Coalesce) count = node.Coalesce count
-call_node (Some function.NullIf) count = node.NullIf
-call_node (Some function.Lower) count = node.Lower
-call_node (Some function.Upper) count = node.Upper
+call_node (Some function.NullIf) count = if nat_eq count 2 then node.NullIf else node.Coalesce count
+call_node (Some function.Lower) count = if nat_eq count 1 then node.Lower else node.Coalesce count
+call_node (Some function.Upper) count = if nat_eq count 1 then node.Upper else node.Coalesce count
 
 -- what a node adds, where so many names stand before it
 abbrev pub skeleton_nodes : ℕ → RawNode → List Node

@@ -1,6 +1,6 @@
 -- An expression with numbers in place of its names: each name, counted from the left, is the column of that number.
 -- (Looker, LookML reference: sql; lookd)
-use Rattle.std.specs.Prelude.{ℕ, ◌+◌, Bool, true, false, List, [], ◌∷◌, ◌++◌, Option, Some, Result, Ok, Err}
+use Rattle.std.specs.Prelude.{ℕ, ◌+◌, Bool, true, false, List, [], ◌∷◌, ◌++◌, Option, Some, None, Result, Ok, Err}
 use Rattle.lk_val.specs.Numbers.{num_of}
 use Rattle.lk_val.specs.declared.num.Num.{Num}
 use Rattle.lk_val.specs.declared.num.NumFault.{NumFault}
@@ -16,6 +16,7 @@ use Rattle.lk_expr_token.specs.declared.functions.Function.TheVariants as functi
 use Rattle.lk_expr_token.specs.Functions.{function_of}
 use Rattle.lk_expr_tree.specs.declared.raw.Joint.{Joint}
 use Rattle.lk_expr_tree.specs.declared.raw.Joint.TheVariants as joint
+use Rattle.lk_expr_tree.specs.Calls.{unknown_call}
 use Rattle.lk_expr_tree.specs.Grammar.{Tree, Number, Text, Name, Column, Field, FieldOf, Truth, Null, Group, Call, Case, CaseElse, Negate, Chain, Compare, IsNull, In, Between, Like, Not, Args, one, more, Branches, when, then_when}
 use Rattle.lk_objects.specs.declared.code.Written.{Written}
 use Rattle.lk_written.specs.References.{references_of, count, count_in, count_among}
@@ -39,13 +40,15 @@ joined joint.Concat a b = formula.Concat a b
 joined joint.Times a b = formula.Number arithmetic.Times a b
 joined joint.Over a b = formula.Number arithmetic.Over a b
 
--- a function of its arguments, as many as it takes; a tree that is read has no other calls
+-- a function of its arguments. A call of no known function, or with a wrong number of arguments, stands as COALESCE of all
+-- of them: so it has as many nodes as any call, and its arguments stay in the tree
 abbrev pub called : Option Function → List Formula → Formula
+called None args = formula.Coalesce (formulas_of args)
 called (Some function.Coalesce) args = formula.Coalesce (formulas_of args)
 called (Some function.NullIf) (a ∷ b ∷ []) = formula.NullIf a b
 called (Some function.Lower) (a ∷ []) = formula.Lower a
 called (Some function.Upper) (a ∷ []) = formula.Upper a
-called f args = formula.Literal value.Null
+called f args = formula.Coalesce (formulas_of args)
 
 abbrev mutual
   -- the expression of a tree, whose first name has this number; brackets leave no trace
@@ -85,6 +88,6 @@ abbrev mutual
       branch_skeletons n branches
       ++ skeleton (n + count_among branches) c ∷ skeleton (n + count_among branches + count c) a ∷ []
 
--- an expression as it is written: its names, and the tree over their numbers
+-- an expression as it is written: its names, the tree over their numbers, and where its first unknown call stands
 abbrev pub written_of : Tree → Written
-written_of a = record { references = references_of a; expr = skeleton 0 a }
+written_of a = record { references = references_of a; expr = skeleton 0 a; unknown_call = unknown_call a }

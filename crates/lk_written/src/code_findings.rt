@@ -1,7 +1,7 @@
 ghost use Rattle.std.specs.Prelude.{◌≡◌, IfOk};
 ghost use Rattle.std.specs.List.{fold};
 ghost use Rattle.lk_params.specs.Findings.{sooner};
-ghost use Rattle.lk_written.specs.CodeFindings.{code_findings};
+ghost use Rattle.lk_written.specs.CodeFindings.{call_findings, code_findings};
 
 use lk_objects::Code;
 use lk_params::{Finding, Findings, Number, Order};
@@ -21,11 +21,50 @@ pub fn find_in_code(
     ensures { IfOk result (λ _. findings.new.first
         ≡ fold sooner findings.old.first (code_findings order object.now parameter.now code.now)) }
 {
-    let (number, place) = match code {
-        Code::Syntax(place) => (Number::E1, *place),
-        Code::Call(place) => (Number::E2, *place),
-        Code::Absent | Code::Liquid | Code::Expr(_) | Code::Number(_) => return Ok(()),
-    };
-    findings.add(Finding::placed(alloc, order, number, parameter, place, object)?);
+    match code {
+        Code::Syntax(place) => {
+            let number = Number::E1;
+            findings.add(Finding::placed(alloc, order, number, parameter, *place, object)?);
+            Ok(())
+        }
+        Code::Expr(written) => {
+            find_call(
+                alloc,
+                order,
+                object,
+                parameter,
+                written.unknown_call,
+                findings,
+            )
+        }
+        Code::Number(written) => {
+            find_call(
+                alloc,
+                order,
+                object,
+                parameter,
+                written.unknown_call,
+                findings,
+            )
+        }
+        Code::Absent | Code::Liquid => Ok(()),
+    }
+}
+
+// A call that is unknown, where there is one.
+fn find_call(
+    alloc: Global,
+    order: Order,
+    object: &str,
+    parameter: &str,
+    unknown_call: Option<u32>,
+    findings: &mut Findings,
+) -> Result<(), NoMemory>
+    ensures { IfOk result (λ _. findings.new.first
+        ≡ fold sooner findings.old.first (call_findings order object.now parameter.now unknown_call)) }
+{
+    if let Some(place) = unknown_call {
+        findings.add(Finding::placed(alloc, order, Number::E2, parameter, place, object)?);
+    }
     Ok(())
 }

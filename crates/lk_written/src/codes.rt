@@ -5,7 +5,8 @@ ghost use Rattle.lk_params.specs.Known.{holds_liquid};
 
 use crate::measure::written_number_of;
 use crate::skeleton::written_of;
-use lk_expr_place::{ExprFault, read_expr, read_measure};
+use lk_expr_place::{Grammar, fault_place};
+use lk_expr_text::{parse_expr, parse_measure};
 use lk_objects::Code;
 use lk_params::holds_liquid;
 use lk_val::NoMemory;
@@ -40,21 +41,17 @@ fn read_text(alloc: Global, over_measures: bool, text: &str) -> Result<Code, NoM
 fn read_over_columns(alloc: Global, text: &[u8]) -> Result<Code, NoMemory>
     ensures { IfOk result (IsReading Expressions text.now) }
 {
-    match read_expr(alloc, text) {
-        Ok(e) => Ok(Code::Expr(written_of(alloc, &e)?)),
-        Err(ExprFault::E1(place)) => Ok(Code::Syntax(place)),
-        Err(ExprFault::E2(place)) => Ok(Code::Call(place)),
-        Err(ExprFault::NoMemory) => Err(NoMemory),
+    match parse_expr(alloc, text)? {
+        Some(e) => Ok(Code::Expr(written_of(alloc, &e)?)),
+        None => Ok(Code::Syntax(fault_place(alloc, Grammar::Expressions, text)?)),
     }
 }
 
 fn read_over_measures(alloc: Global, text: &[u8]) -> Result<Code, NoMemory>
     ensures { IfOk result (IsReading Measures text.now) }
 {
-    match read_measure(alloc, text) {
-        Ok(e) => Ok(Code::Number(written_number_of(alloc, &e)?)),
-        Err(ExprFault::E1(place)) => Ok(Code::Syntax(place)),
-        Err(ExprFault::E2(place)) => Ok(Code::Call(place)),
-        Err(ExprFault::NoMemory) => Err(NoMemory),
+    match parse_measure(alloc, text)? {
+        Some(e) => Ok(Code::Number(written_number_of(alloc, &e)?)),
+        None => Ok(Code::Syntax(fault_place(alloc, Grammar::Measures, text)?)),
     }
 }

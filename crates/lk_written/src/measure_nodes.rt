@@ -43,15 +43,14 @@ fn number_node(digits: &Bytes) -> NumNode
     }
 }
 
-// A call of a function of measures; no measure has another.
+// A call of a function of measures; no measure has another. One with a wrong number of arguments stands as COALESCE of all
+// of them.
 fn call_node(name: &Bytes, count: usize) -> NumNode
     ensures { result ≡ call_node (function_of name.now) count }
 {
     match function_of(name.as_slice()) {
-        Some(Function::NullIf) => NumNode::NullIf,
-        Some(Function::Coalesce | Function::Lower | Function::Upper) | None => {
-            NumNode::Coalesce(count)
-        }
+        Some(Function::NullIf) if count == 2 => NumNode::NullIf,
+        _ => NumNode::Coalesce(count),
     }
 }
 

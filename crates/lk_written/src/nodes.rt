@@ -91,13 +91,14 @@ fn joint_node(joint: Joint) -> Node
     }
 }
 
+// A call of so many arguments. One that is not known stands as COALESCE of all of them.
 fn call_node(name: &Bytes, count: usize) -> Node
     ensures { result ≡ call_node (function_of name.now) count }
 {
     match function_of(name.as_slice()) {
-        Some(Function::Coalesce) | None => Node::Coalesce(count),
-        Some(Function::NullIf) => Node::NullIf,
-        Some(Function::Lower) => Node::Lower,
-        Some(Function::Upper) => Node::Upper,
+        Some(Function::NullIf) if count == 2 => Node::NullIf,
+        Some(Function::Lower) if count == 1 => Node::Lower,
+        Some(Function::Upper) if count == 1 => Node::Upper,
+        _ => Node::Coalesce(count),
     }
 }

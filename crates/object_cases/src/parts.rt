@@ -41,7 +41,7 @@ pub fn add_code(code: &Code, line: &mut Bytes) -> Result<(), CaseFault> {
     match code {
         Code::Expr(written) => add_references(&written.references, line),
         Code::Number(written) => add_references(&written.references, line),
-        Code::Absent | Code::Liquid | Code::Syntax(_) | Code::Call(_) => Ok(()),
+        Code::Absent | Code::Liquid | Code::Syntax(_) => Ok(()),
     }
 }
 

@@ -1,4 +1,4 @@
--- Both are computed.
+-- All are computed.
 use Rattle.std.proofs.Common.{refl}
 use Rattle.lk_val.specs.Numbers.{num_of}
 use Rattle.lk_expr_token.specs.Functions.{function_of}
@@ -11,3 +11,7 @@ returns-clause-quotient c = refl
 pub returns-clause-known : goal.returns-clause-known
 unfolding function_of num_of
 returns-clause-known c = refl
+
+pub returns-clause-unknown : goal.returns-clause-unknown
+unfolding function_of num_of
+returns-clause-unknown c = refl

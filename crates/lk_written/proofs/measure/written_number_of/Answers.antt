@@ -17,7 +17,7 @@ add_reference-requires c =
     let n = c.node-item.result in
     let e = tree_of c.args.e.now in
     let text = c.requires.spelled in
-    let all : list_all is_formed raw ≡ true = all_formed raw e c.nodes-raw.ensures.value c.nodes-raw.ensures.whole (good_of e text.0 text.1.expr c.requires.known) in
+    let all : list_all is_formed raw ≡ true = all_formed raw e c.nodes-raw.ensures.value c.nodes-raw.ensures.whole (good_of e text.0 text.1.expr) in
     (both_true (has_operands n) (is_named n) (formed_at raw c.loop-node.node-index n c.loop-node-test.true c.node-item.is all)).1
 
 pub loop-node-preserved : goal.loop-node-preserved
@@ -26,7 +26,7 @@ loop-node-preserved c =
     let n = c.node-item.result in
     let e = tree_of c.args.e.now in
     let text = c.requires.spelled in
-    let all : list_all is_formed raw ≡ true = all_formed raw e c.nodes-raw.ensures.value c.nodes-raw.ensures.whole (good_of e text.0 text.1.expr c.requires.known) in
+    let all : list_all is_formed raw ≡ true = all_formed raw e c.nodes-raw.ensures.value c.nodes-raw.ensures.whole (good_of e text.0 text.1.expr) in
     let has = (both_true (has_operands n) (is_named n) (formed_at raw c.loop-node.node-index n c.loop-node-test.true c.node-item.is all)).0 in
     let measures : list_all is_measure_node raw ≡ true = measure_of_nodes raw e c.nodes-raw.ensures.value c.nodes-raw.ensures.whole ∙ text.1.measure in
     let of = of_measure n (at_place is_measure_node raw c.loop-node.node-index n c.loop-node-test.true c.node-item.is measures) has in

@@ -13,7 +13,7 @@ add_reference-requires c =
     let raw = c.nodes-raw.result.now in
     let n = c.node-item.result in
     let e = tree_of c.args.e.now in
-    let all : list_all is_formed raw ≡ true = all_formed raw e c.nodes-raw.ensures.value c.nodes-raw.ensures.whole (good_of e c.requires.spelled.0 c.requires.spelled.1 c.requires.known) in
+    let all : list_all is_formed raw ≡ true = all_formed raw e c.nodes-raw.ensures.value c.nodes-raw.ensures.whole (good_of e c.requires.spelled.0 c.requires.spelled.1) in
     (both_true (has_operands n) (is_named n) (formed_at raw c.loop-node.node-index n c.loop-node-test.true c.node-item.is all)).1
 
 pub loop-node-preserved : goal.loop-node-preserved
@@ -21,7 +21,7 @@ loop-node-preserved c =
     let raw = c.nodes-raw.result.now in
     let n = c.node-item.result in
     let e = tree_of c.args.e.now in
-    let all : list_all is_formed raw ≡ true = all_formed raw e c.nodes-raw.ensures.value c.nodes-raw.ensures.whole (good_of e c.requires.spelled.0 c.requires.spelled.1 c.requires.known) in
+    let all : list_all is_formed raw ≡ true = all_formed raw e c.nodes-raw.ensures.value c.nodes-raw.ensures.whole (good_of e c.requires.spelled.0 c.requires.spelled.1) in
     let has = (both_true (has_operands n) (is_named n) (formed_at raw c.loop-node.node-index n c.loop-node-test.true c.node-item.is all)).0 in
     goes_on raw c.loop-node.node-index n c.loop-node.references c.add_reference.new.references
     c.loop-node.nodes c.add_nodes.new.nodes c.len.result c.loop-node-test.true c.node-item.is has

@@ -3,7 +3,7 @@ use Rattle.std.proofs.lemmas.Result.{IfOk-weaker}
 use Rattle.lk_expr_place.specs.ExprTexts.{IsOfGrammar}
 use Rattle.lk_expr_place.specs.SyntaxPlaces.{IsSyntaxPlace}
 use Rattle.lk_expr_place.proofs.GrammarLaws.{place_there}
-use Rattle.lk_expr_place.proofs.reading.place_of.Goals as goal
+use Rattle.lk_expr_place.proofs.reading.fault_place.Goals as goal
 
 pub returns : goal.returns
 returns c =
