@@ -1,4 +1,4 @@
-// The explore of all cases: three dimensions, measures, and `number`s over them.
+// The explore of the cases: three dimensions, measures, and `number`s over them; and one with a chain of `number`s.
 
 use case_lines::CaseFault;
 use lk_types::{
@@ -37,12 +37,30 @@ const NUMBERS: [(&str, &str); 10] = [
 
 /// The explore. Of its views, joins and expressions nothing is asked here.
 pub fn shop(alloc: Global) -> Result<Explore, CaseFault> {
+    let measures = measures(alloc)?;
+    explore_of(alloc, measures)
+}
+
+/// An explore whose first measure counts, and whose others are so many `number`s, each over the measure before it.
+pub fn chain(alloc: Global, length: u32) -> Result<Explore, CaseFault> {
+    let mut measures = Items::new(alloc);
+    measures.push(measure(alloc, "count", Op::Count, Kind::Number, None)?)?;
+    for before in 0..length {
+        let mut nodes = Items::new(alloc);
+        nodes.push(NumNode::Measure(before))?;
+        let number = NumExpr::from_nodes(nodes).ok_or(CaseFault::NoSuchCase)?;
+        measures.push(measure(alloc, "next", Op::Number, Kind::Number, Some(number))?)?;
+    }
+    explore_of(alloc, measures)
+}
+
+fn explore_of(alloc: Global, measures: Items<Measure>) -> Result<Explore, CaseFault> {
     Ok(Explore {
         name: Text::from_str(alloc, "shop")?,
         parts: Items::new(alloc),
         joins: Items::new(alloc),
         fields: fields(alloc)?,
-        measures: measures(alloc)?,
+        measures,
         always_join: Items::new(alloc),
         always: Items::new(alloc),
         always_where: None,
