@@ -9,7 +9,7 @@ use Rattle.lk_types.specs.declared.rows.Sources.{Sources}
 use Rattle.lk_include.specs.declared.project.ProjectFault.{ProjectFault}
 use Rattle.lk_include.specs.declared.project.ProjectFault.TheVariants as project
 use Rattle.lk_schema.specs.declared.users.Users.{Users}
-use Rattle.lk_keep.specs.declared.kept.Kept.{Kept}
+use Rattle.lk_ledger.specs.declared.kept.Kept.{Kept}
 use Rattle.lk_resolve.specs.Loading.{IsLoadOf}
 use Rattle.lk_resolve.specs.declared.loading.Loaded.{Loaded}
 use Rattle.lk_seed.specs.Seeds as seeds
@@ -28,6 +28,7 @@ use Rattle.lk_serve.specs.Keeping.{IsEmpty}
 use Rattle.lk_serve.specs.Opened.{IsOpened, Opens, OpenedAs, OverFiles, OverLoaded, OverSeeds, numbered, open_line}
 use Rattle.lk_serve.specs.Outcomes.{IsReply, IsReplyTo}
 use Rattle.lk_serve.specs.Queries.{IsAnswered, IsQueried, OverBody, OverEdition, OverOpened, TellsAnswer, small_input}
+use Rattle.lk_serve.specs.Replies.{usage_reply}
 use Rattle.lk_serve.specs.Words.{Asked, asked_by, unknown, check, query, script}
 use Rattle.lk_serve.specs.declared.opening.Service.{Service}
 use Rattle.lk_serve.specs.declared.opening.Service.TheVariants.{Queries}
@@ -166,3 +167,18 @@ module _ (one_load : OneLoad) (one_told : OneTold) where
       → IsReply words (Some files) (Some input) (Some now) a → IsReply words (Some files) (Some input) (Some now) b → a ≡ b
   unfolding IsReply
   one_reply words files input now a b h k = one_by (asked_by words) files input now a b h k
+
+  -- ---- as far as the files alone tell
+
+  -- wrong words have the usage line, whatever is told
+  pub usage_told : (words : List (List ℕ)) (files : Option (List File)) (input : Option (List ℕ)) (now : Option ℤ) (a : Reply)
+      → asked_by words ≡ unknown → IsReply words files input now a → a ≡ usage_reply
+  unfolding IsReply
+  usage_told words files input now a is h = subst (λ asked. IsReplyTo asked files input now a) is h
+
+  -- a folder whose project does not open has its line, whatever is told of the input and the clock
+  pub line_told : (files : List File) (user explore : List ℕ) (input : Option (List ℕ)) (now : Option ℤ) (line a : Reply)
+      → IsOpened Queries files IsEmpty (Err line) → IsQueried files user explore input now a → a ≡ line
+  line_told files user explore input now line a opened h =
+      let same : h.opened ≡ Err line = one_opening IsEmpty (λ a b h k. h ∙ sym k) Queries files h.opened (Err line) h.is_opened opened in
+      subst (λ r. OverOpened user explore input now r a) same h.told

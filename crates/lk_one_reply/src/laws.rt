@@ -1,4 +1,4 @@
-ghost use Rattle.std.specs.Prelude.{◌≡◌, ℕ, ℤ, List, Result, Some};
+ghost use Rattle.std.specs.Prelude.{◌≡◌, ℕ, ℤ, List, Option, Result, Err, Some};
 ghost use Rattle.lk_io.specs.declared.files.File.{File};
 ghost use Rattle.lk_include.specs.declared.project.ProjectFault.{ProjectFault};
 ghost use Rattle.lk_types.specs.declared.schema.Schema.{Schema};
@@ -7,7 +7,13 @@ ghost use Rattle.lk_objects.specs.declared.view.Declared.{Declared};
 ghost use Rattle.lk_resolve.specs.Loading.{IsLoadOf};
 ghost use Rattle.lk_resolve.specs.Objects.{HasObjects};
 ghost use Rattle.lk_resolve.specs.declared.loading.Loaded.{Loaded};
+ghost use Rattle.lk_serve.specs.Keeping.{IsEmpty};
+ghost use Rattle.lk_serve.specs.Opened.{IsOpened};
 ghost use Rattle.lk_serve.specs.Outcomes.{IsReply};
+ghost use Rattle.lk_serve.specs.Queries.{IsQueried};
+ghost use Rattle.lk_serve.specs.Replies.{usage_reply};
+ghost use Rattle.lk_serve.specs.Words.{asked_by, unknown};
+ghost use Rattle.lk_serve.specs.declared.opening.Service.TheVariants.{Queries};
 ghost use Rattle.lk_serve.specs.declared.replies.Reply.{Reply};
 ghost use Rattle.lk_one_reply.specs.Told.{IsTold};
 
@@ -23,12 +29,17 @@ pub fn objects_say_one_thing()
 }
 
 /// Where the files, the input and the next moment are told, there is one reply to words that ask for one, and what the files are loaded as, want of memory
-/// and a failure aside, is one. A law: it computes nothing.
+/// and a failure aside, is one. Wrong words have the usage line whatever is told, and a query over a folder whose project does
+/// not open has the folder's line whatever is told of the input and the clock. A law: it computes nothing.
 pub fn words_have_one_reply()
     ensures loads { (files : List File) (r s : Result Loaded ProjectFault) → IsTold r → IsTold s → IsLoadOf files r → IsLoadOf files s
         → r ≡ s }
     ensures replies { (words : List (List ℕ)) (files : List File) (input : List ℕ) (now : ℤ) (a b : Reply)
         → IsReply words (Some files) (Some input) (Some now) a → IsReply words (Some files) (Some input) (Some now) b → a ≡ b }
+    ensures usage { (words : List (List ℕ)) (files : Option (List File)) (input : Option (List ℕ)) (now : Option ℤ) (a : Reply)
+        → asked_by words ≡ unknown → IsReply words files input now a → a ≡ usage_reply }
+    ensures closed { (files : List File) (user explore : List ℕ) (input : Option (List ℕ)) (now : Option ℤ) (line a : Reply)
+        → IsOpened Queries files IsEmpty (Err line) → IsQueried files user explore input now a → a ≡ line }
 {
     objects_say_one_thing();
     bodies_are_told_one_thing();
