@@ -4,15 +4,23 @@
 
 mod case;
 mod folder;
+mod outside;
+mod saving;
+mod store;
 
 use case::{Base, answer_line};
 use lk_val::Text;
+use outside::Outside;
 use std::io;
+use store::Store;
 
 fn main(rt: HostRuntime) -> io::Result<()> {
     let mut base = Base {
         files: Text::new(rt.alloc()),
         now: 0,
+        outside: Outside::whole(rt.alloc()),
+        keeper: None,
+        store: Store::none(),
     };
     for line in rt.lines(rt.alloc()) {
         let line = line?;

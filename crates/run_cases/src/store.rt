@@ -28,6 +28,11 @@ impl Store {
     /// The store in the same file, opened anew.
     pub fn open(&mut self, rt: &HostRuntime) -> Result<(), CaseFault> {
         let path = self.path(rt)?;
+        self.open_at(rt, path)
+    }
+
+    /// The store at a path.
+    pub fn open_at(&mut self, rt: &HostRuntime, path: Text) -> Result<(), CaseFault> {
         let system: HostRuntime = rt.clone()?;
         self.keeper = Some(SqlKeeper::at(system, path));
         Ok(())

@@ -5,13 +5,11 @@ use lk_val::{Text, as_text};
 use sqlite::Connection;
 use std::alloc::Global;
 
-/// The answer of a line: `begin` makes a store in a new file, and `open` opens the same file anew; `load NUMBER ID TABLE
-/// append|replace ROWS | BODY`, `check NUMBER` and `read` call the store; `sql TEXT` closes it and changes its file by SQL.
-pub fn answer_line(rt: &HostRuntime, store: &mut Store, line: &str) -> Result<Text, CaseFault> {
+/// The answer of a line on the store of loads in a file, behind the word `store`: `begin` makes a store in a new file, `open`
+/// opens the same file anew, and `at PATH` one that is there; `load NUMBER ID TABLE append|replace ROWS | BODY`, `check NUMBER`
+/// and `read` call the store; `sql TEXT` closes it and changes its file by SQL.
+pub fn answer_store(rt: &HostRuntime, store: &mut Store, line: &str) -> Result<Text, CaseFault> {
     let alloc = rt.alloc();
-    if line.is_empty() || line.starts_with("#") {
-        return Ok(Text::from_str(alloc, line)?);
-    }
     let (task, rest) = parted(line, " ");
     match task {
         "begin" => {
@@ -20,6 +18,10 @@ pub fn answer_line(rt: &HostRuntime, store: &mut Store, line: &str) -> Result<Te
         }
         "open" => {
             store.open(rt)?;
+            Ok(Text::from_str(alloc, task)?)
+        }
+        "at" => {
+            store.open_at(rt, Text::from_str(alloc, rest)?)?;
             Ok(Text::from_str(alloc, task)?)
         }
         "read" => answer_read(alloc, store),

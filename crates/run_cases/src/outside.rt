@@ -1,0 +1,114 @@
+// What stands around the runs of the lines behind a line, and what of it fails. The fields are `input 1 fails`,
+// `output 2 fails` and `store 0 fails`, which let a call fail, counted from 0; `room of 20 bytes` for the output; `body of
+// 5 bytes`, which puts spaces behind the body; and `store of 3 loads`, of one row each, whose batches are gone.
+
+use case_lines::CaseFault;
+use lk_keep::{Kept, KeptId, MemKeeper};
+use lk_val::{Bytes, Items, NoMemory, Text};
+use std::alloc::Global;
+
+// The most bytes that a run writes, where no line says otherwise.
+const ROOM: usize = 65_536;
+
+// The most bytes of a body, and the most loads of a store.
+const MOST: usize = 20_000_000;
+
+#[derive(Drop)]
+pub struct Outside {
+    pub input: Vec<u64>,
+    pub output: Vec<u64>,
+    pub store: Vec<u64>,
+    pub room: usize,
+    pub body: usize,
+    pub loads: u64,
+}
+
+impl Outside {
+    /// Nothing fails, and there is room.
+    pub fn whole(alloc: Global) -> Outside {
+        Outside {
+            input: Vec::new(alloc),
+            output: Vec::new(alloc),
+            store: Vec::new(alloc),
+            room: ROOM,
+            body: 0,
+            loads: 0,
+        }
+    }
+
+    /// What the fields of a line say.
+    pub fn of(alloc: Global, fields: &str) -> Result<Outside, CaseFault> {
+        let mut outside = Outside::whole(alloc);
+        for field in fields.split(" | ") {
+            if !field.is_empty() {
+                outside.add(field)?;
+            }
+        }
+        Ok(outside)
+    }
+
+    fn add(&mut self, field: &str) -> Result<(), CaseFault> {
+        if let Some(number) = number_in(field, "input ", " fails") {
+            self.input.push(number)?;
+        } else if let Some(number) = number_in(field, "output ", " fails") {
+            self.output.push(number)?;
+        } else if let Some(number) = number_in(field, "store ", " fails") {
+            self.store.push(number)?;
+        } else if let Some(size) = size_in(field, "room of ", " bytes") {
+            self.room = size;
+        } else if let Some(size) = size_in(field, "body of ", " bytes") {
+            self.body = size;
+        } else if let Some(size) = size_in(field, "store of ", " loads") {
+            self.loads = size as u64;
+        } else {
+            return Err(CaseFault::NoSuchCase);
+        }
+        Ok(())
+    }
+
+    /// The body, with spaces behind it up to the size that is said.
+    pub fn padded(&self, alloc: Global, mut body: Bytes) -> Result<Bytes, NoMemory> {
+        let mut spaces = Vec::new(alloc);
+        spaces.resize(self.body.saturating_sub(body.len()), b' ')?;
+        body.append(&spaces)?;
+        Ok(body)
+    }
+
+    /// The store of the runs.
+    pub fn keeper(&self, alloc: Global) -> Result<MemKeeper, NoMemory> {
+        let mut ids = Items::new(alloc);
+        for number in 1..=self.loads {
+            ids.push(KeptId {
+                id: Text::from_string(format!(in alloc; "{number}")?),
+                number,
+                rows: 1,
+            })?;
+        }
+        let kept = Kept {
+            number: self.loads,
+            chunks: Items::new(alloc),
+            ids,
+        };
+        Ok(MemKeeper::new(kept, calls(alloc, &self.store)?))
+    }
+}
+
+/// The numbers of the calls that fail.
+pub fn calls(alloc: Global, numbers: &[u64]) -> Result<Items<u64>, NoMemory> {
+    let mut calls = Items::new(alloc);
+    for number in numbers {
+        calls.push(*number)?;
+    }
+    Ok(calls)
+}
+
+fn number_in(field: &str, front: &str, end: &str) -> Option<u64> {
+    let number = field.strip_prefix(front)?.strip_suffix(end)?;
+    number.parse::<u64>().ok()
+}
+
+fn size_in(field: &str, front: &str, end: &str) -> Option<usize> {
+    let size = field.strip_prefix(front)?.strip_suffix(end)?;
+    let size = size.parse::<usize>().ok()?;
+    if size <= MOST { Some(size) } else { None }
+}

@@ -1,7 +1,0 @@
-//! Runs whose files, input, output or store fail.
-#![tactic(auto)]
-
-#[cfg(test)]
-mod failing;
-#[cfg(test)]
-mod sessions;
