@@ -2,7 +2,7 @@ ghost use Rattle.std.specs.Prelude.{◌≡◌, IfOk, OnOk, map};
 ghost use Rattle.lk_semantics.specs.Measures.{lesser, greater, unless_counted};
 ghost use Rattle.std.specs.Ordering.{is_lt, is_gt};
 ghost use Rattle.lk_val.specs.ValueRefs.{value_of_ref};
-ghost use Rattle.lk_val.specs.Values.{is_null, null_last_cmp, value_cmp};
+ghost use Rattle.lk_val.specs.Values.{null_last_cmp, value_cmp};
 ghost use Rattle.lk_agg.specs.Columns.{fresh, with_cells, with_entry, with_given, with_key, with_pair, with_place, with_value};
 ghost use Rattle.lk_agg.specs.Given.{given_cells, key_value_of};
 
@@ -152,7 +152,7 @@ fn add_pair(
     ensures { OnOk result (pairs.new
         ≡ with_pair op (value_of_ref key.entry) (value_of_ref value.entry) pairs.old) }
 {
-    if is_null(key) {
+    if key.is_null() {
         return Ok(());
     }
     pairs.insert(alloc, key, unless_counted(op, value))
@@ -162,7 +162,7 @@ fn add_pair(
 fn add_value(alloc: Global, values: &mut Sorted<Value>, value: ValueRef<'_>) -> Result<(), NoMemory>
     ensures { OnOk result (values.new ≡ with_value (value_of_ref value.entry) values.old) }
 {
-    if !is_null(value) {
+    if !value.is_null() {
         values.insert(value.to_value(alloc)?)?;
     }
     Ok(())
@@ -178,23 +178,14 @@ fn unless_counted(op: Op, value: ValueRef<'_>) -> ValueRef<'_>
     }
 }
 
-pub(crate) fn is_null(value: ValueRef<'_>) -> bool
-    ensures { result ≡ is_null (value_of_ref value.entry) }
-{
-    match value {
-        ValueRef::Null => true,
-        _ => false,
-    }
-}
-
 // Whether the first value is the lesser one, null being neither.
 pub(crate) fn is_lesser(a: ValueRef<'_>, b: ValueRef<'_>) -> bool
     ensures { result ≡ is_lt (null_last_cmp (value_of_ref a.entry) (value_of_ref b.entry)) }
 {
-    if is_null(a) {
+    if a.is_null() {
         false
     } else {
-        is_null(b) || a.cmp(b) == Ordering::Less
+        b.is_null() || a.cmp(b) == Ordering::Less
     }
 }
 

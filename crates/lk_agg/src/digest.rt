@@ -6,7 +6,6 @@ ghost use Rattle.lk_types.specs.declared.answer.Pair.{Pair};
 ghost use Rattle.lk_agg.specs.NumberPair.{pair_of_numbers};
 ghost use Rattle.lk_agg.specs.Finishing.{digest_of, twice_after, twice_in};
 
-use crate::columns::is_null;
 use crate::number_pair::NumberPair;
 use lk_types::Pair as WholePair;
 use lk_val::{NoMemory, Value, ValueRef};
@@ -124,5 +123,5 @@ fn known_count<T: Paired>(pairs: &[T]) -> u64
     ensures count { result ≡ known_count (map T.pair pairs.now) }
     ensures few { result ≤ length pairs.now }
 {
-    pairs.iter().filter(|pair| !is_null(pair.value())).count() as u64
+    pairs.iter().filter(|pair| !pair.value().is_null()).count() as u64
 }

@@ -1,6 +1,6 @@
 ghost use Rattle.std.specs.Prelude.{◌≡◌, IfOk, length, nat_lt, true};
 ghost use Rattle.lk_val.specs.Memory.{IsUnlessMemory, UnlessMemory};
-ghost use Rattle.lk_types.specs.Dates.{IsMomentInYears};
+ghost use Rattle.lk_val.specs.Years.{IsMomentInYears};
 ghost use Rattle.lk_semantics.specs.Answers.{measure_at};
 ghost use Rattle.lk_semantics.specs.Derived.{explore_at};
 ghost use Rattle.lk_semantics.specs.Resolved.{IsInModel, IsResolved};

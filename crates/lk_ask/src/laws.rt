@@ -1,5 +1,5 @@
 ghost use Rattle.std.specs.Prelude.{◌≡◌, ℕ, ℤ, List, Ok, Result};
-ghost use Rattle.lk_types.specs.Dates.{IsMomentInYears};
+ghost use Rattle.lk_val.specs.Years.{IsMomentInYears};
 ghost use Rattle.lk_types.specs.declared.bound.Bound.{Bound};
 ghost use Rattle.lk_types.specs.declared.model.Model.{Model};
 ghost use Rattle.lk_types.specs.declared.rows.Sources.{Sources};

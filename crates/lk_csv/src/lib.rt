@@ -6,5 +6,5 @@ mod reading;
 mod writing;
 
 pub use laws::written_records_read_back;
-pub use reading::read_records;
+pub use reading::{read_records, reader_over, take_record};
 pub use writing::write_record;

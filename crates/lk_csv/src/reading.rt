@@ -12,10 +12,7 @@ use std::alloc::Global;
 pub fn read_records(alloc: Global, text: &[u8]) -> Result<Items<Items<Bytes>>, NoMemory>
     ensures { IfOk result (λ rows. rows ≡ records_of text.now) }
 {
-    let mut reader = ReaderBuilder::new()
-        .has_headers(false)
-        .flexible(true)
-        .from_reader(alloc, text);
+    let mut reader = reader_over(alloc, text);
     let mut row = ByteRecord::new(alloc);
     let mut rows = Items::new(alloc);
     while take_record(&mut reader, &mut row)? {
@@ -24,8 +21,19 @@ pub fn read_records(alloc: Global, text: &[u8]) -> Result<Items<Items<Bytes>>, N
     Ok(rows)
 }
 
-// Takes the next record of the reader into `row`, or says that none is left.
-fn take_record(reader: &mut Reader<&[u8]>, row: &mut ByteRecord) -> Result<bool, NoMemory>
+/// A reader of the records of a text, which `take_record` takes one by one.
+pub fn reader_over(alloc: Global, text: &[u8]) -> Reader<&[u8]>
+    ensures reading { IsReading result }
+    ensures records { records_left result ≡ records_of text.now }
+{
+    ReaderBuilder::new()
+        .has_headers(false)
+        .flexible(true)
+        .from_reader(alloc, text)
+}
+
+/// Takes the next record of the reader into `row`, or says that none is left.
+pub fn take_record(reader: &mut Reader<&[u8]>, row: &mut ByteRecord) -> Result<bool, NoMemory>
     requires { IsReading reader.old }
     ensures reading { IfOk result (λ found. found ≡ true → IsReading reader.new) }
     ensures value { IfOk result (λ found.

@@ -16,7 +16,8 @@ use Rattle.lk_types.specs.declared.expr.Arithmetic.{Arithmetic}
 use Rattle.lk_types.specs.declared.rows.Joined.{Joined}
 use Rattle.lk_types.specs.declared.schema.Frame.{Frame}
 use Rattle.lk_types.specs.declared.schema.Frame.TheVariants as frame
-use Rattle.lk_types.specs.Dates.{IsDayInYears, IsMomentInYears, is_dated, is_part_dated, is_row_dated, are_literals_dated, are_all_dated, are_cases_dated}
+use Rattle.lk_val.specs.Years.{IsDayInYears, IsMomentInYears}
+use Rattle.lk_types.specs.Dates.{is_dated, is_part_dated, is_row_dated, are_literals_dated, are_all_dated, are_cases_dated}
 use Rattle.lk_time.proofs.YearLaws.{year_of-IsInYear, year_of-range}
 use Rattle.lk_time.proofs.CivilLaws.{month_start-bound}
 use Rattle.lk_time.proofs.FrameLaws.{from_year_one-bound, day_of_moment-range, second_of_moment-bound, month_of-range}

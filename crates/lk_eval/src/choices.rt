@@ -5,7 +5,7 @@ ghost use Rattle.lk_types.specs.Expressions.{first_known, null_if};
 ghost use Rattle.lk_eval.specs.NodeValues.{first_chosen, operand};
 ghost use Rattle.lk_eval.specs.Operands.{operand_value};
 
-use crate::comparison::{compared, is_null};
+use crate::comparison::compared;
 use crate::operand::{Operand, nth};
 use crate::truth::{is_true, is_yes};
 use lk_types::Comparison;
@@ -43,7 +43,7 @@ pub(crate) fn first_known<'a>(
     ensures { IfOk result (λ known. operand_value known ≡ first_known (map operand_value operands.now)) }
 {
     for operand in operands {
-        if !is_null(operand.value()) {
+        if !operand.value().is_null() {
             return operand.again(alloc);
         }
     }

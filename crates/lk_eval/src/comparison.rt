@@ -1,7 +1,7 @@
 ghost use Rattle.std.specs.Prelude.{◌≡◌};
 ghost use Rattle.lk_val.specs.ValueRefs.{value_of_ref};
-ghost use Rattle.lk_val.specs.Values.{value_cmp, is_null};
-ghost use Rattle.lk_types.specs.Expressions.{beside, compared, holds};
+ghost use Rattle.lk_val.specs.Values.{value_cmp};
+ghost use Rattle.lk_types.specs.Expressions.{beside, compared};
 
 use lk_types::Comparison;
 use lk_val::ValueRef;
@@ -14,20 +14,10 @@ const DAY: i64 = 86_400;
 pub(crate) fn compared(comparison: Comparison, a: ValueRef<'_>, b: ValueRef<'_>) -> Option<bool>
     ensures { result ≡ compared comparison (value_of_ref a.entry) (value_of_ref b.entry) }
 {
-    if is_null(a) || is_null(b) {
+    if a.is_null() || b.is_null() {
         return None;
     }
-    Some(holds(comparison, cmp_beside(a, b)))
-}
-
-// Whether a value is null.
-pub(crate) fn is_null(v: ValueRef<'_>) -> bool
-    ensures { result ≡ is_null (value_of_ref v.entry) }
-{
-    match v {
-        ValueRef::Null => true,
-        _ => false,
-    }
+    Some(comparison.holds(cmp_beside(a, b)))
 }
 
 fn cmp_beside(a: ValueRef<'_>, b: ValueRef<'_>) -> Ordering
@@ -38,18 +28,5 @@ fn cmp_beside(a: ValueRef<'_>, b: ValueRef<'_>) -> Ordering
         (ValueRef::Day(day), ValueRef::Moment(moment)) => (i64::from(day) * DAY).cmp(&moment),
         (ValueRef::Moment(moment), ValueRef::Day(day)) => moment.cmp(&(i64::from(day) * DAY)),
         _ => a.cmp(b),
-    }
-}
-
-fn holds(comparison: Comparison, order: Ordering) -> bool
-    ensures { result ≡ holds comparison order }
-{
-    match comparison {
-        Comparison::Equal => order.is_eq(),
-        Comparison::NotEqual => order.is_ne(),
-        Comparison::Less => order.is_lt(),
-        Comparison::AtMost => order.is_le(),
-        Comparison::Greater => order.is_gt(),
-        Comparison::AtLeast => order.is_ge(),
     }
 }

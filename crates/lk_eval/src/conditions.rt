@@ -8,7 +8,7 @@ ghost use Rattle.lk_types.specs.declared.rows.Joined.{Joined};
 ghost use Rattle.lk_eval.specs.NodeValues.{is_test, operand, value_made};
 ghost use Rattle.lk_eval.specs.Operands.{operand_value};
 
-use crate::comparison::{compared, is_null};
+use crate::comparison::compared;
 use crate::like::like;
 use crate::operand::{Operand, nth};
 use crate::truth::{and_of, not_of, or_of, truth_of};
@@ -25,7 +25,7 @@ pub(crate) fn truth_made(node: &Node, operands: &[Operand<'_>]) -> Option<bool>
         Node::And => and_of(truth_of(nth(operands, 0)), truth_of(nth(operands, 1))),
         Node::Or => or_of(truth_of(nth(operands, 0)), truth_of(nth(operands, 1))),
         Node::Compare(c) => compared(*c, nth(operands, 0), nth(operands, 1)),
-        Node::IsNull => Some(is_null(nth(operands, 0))),
+        Node::IsNull => Some(nth(operands, 0).is_null()),
         Node::In(_) => is_in(operands),
         Node::Between => {
             let a = nth(operands, 0);

@@ -22,3 +22,4 @@ pub use evaluation::{eval, eval_over};
 pub use kinds::{Clash, kind_of, kinds_framed, kinds_made};
 pub use laws::values_have_their_kinds;
 pub use like::{each_pattern_has_a_text, read_pattern};
+pub use truth::is_true;

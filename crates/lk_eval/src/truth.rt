@@ -55,7 +55,7 @@ pub(crate) fn not_of(a: Option<bool>) -> Option<bool>
 }
 
 // Whether a value is yes, and neither no nor unknown.
-pub(crate) fn is_true(v: ValueRef<'_>) -> bool
+pub fn is_true(v: ValueRef<'_>) -> bool
     ensures { result ≡ is_true (value_of_ref v.entry) }
 {
     match v {

@@ -3,7 +3,6 @@
 ghost use Rattle.std.specs.Prelude.{◌≡◌, pos};
 ghost use Rattle.std.specs.List.{list_all};
 ghost use Rattle.lk_val.specs.Fractions.{frac_cmp, reduced};
-ghost use Rattle.lk_types.specs.Expressions.{holds};
 ghost use Rattle.lk_types.specs.Filters.{number_meets, compares, at_least, at_most, is_above, is_below};
 
 use lk_types::{Comparison, Edge, End, Test};
@@ -63,21 +62,7 @@ fn compares_all<N: Exact>(number: &N, comparisons: &[(Comparison, Num)]) -> bool
 fn compares<N: Exact>(number: &N, comparison: Comparison, num: Num) -> bool
     ensures { result ≡ compares (N.fraction number.now) comparison num }
 {
-    holds(comparison, number.cmp_num(num))
-}
-
-// Whether a comparison holds of two numbers in this order.
-fn holds(comparison: Comparison, order: Ordering) -> bool
-    ensures { result ≡ holds comparison order }
-{
-    match comparison {
-        Comparison::Equal => order.is_eq(),
-        Comparison::NotEqual => order.is_ne(),
-        Comparison::Less => order.is_lt(),
-        Comparison::AtMost => order.is_le(),
-        Comparison::Greater => order.is_gt(),
-        Comparison::AtLeast => order.is_ge(),
-    }
+    comparison.holds(number.cmp_num(num))
 }
 
 fn is_at_least<N: Exact>(number: &N, bound: Option<Num>) -> bool

@@ -7,6 +7,7 @@ use Rattle.lk_grammar.specs.Places.{Judges}
 use Rattle.lk_grammar.specs.Words.{free}
 use Rattle.lk_grammar.specs.Literals.{token_form, IsLiteralOf}
 use Rattle.lk_grammar.specs.declared.literals.Token.TheVariants.{Word, Literal}
+use Rattle.lk_grammar.proofs.FormLaws.{parts_changed, nothing_behind}
 use Rattle.lk_grammar.proofs.LiteralLaws.{exact_text, text_exact}
 use Rattle.lk_grammar.proofs.PlaceLaws.{same_judgement}
 use Rattle.lk_types.specs.declared.filter.Days.{Days}
@@ -110,14 +111,6 @@ Run tokens text = IsText (run_form (32 ∷ []) (token_form letters_of) tokens) t
 
 abbrev Free : DateToken → List ℕ → Type 0
 Free t text = IsText (free (32 ∷ []) (token_form letters_of t)) text
-
--- both parts of a joined text changed
-both : {A B C D : List ℕ → Type 0} {text : List ℕ} → ((t : List ℕ) → A t → C t) → ((t : List ℕ) → B t → D t) → IsJoined A B text → IsJoined C D text
-both f g h = record { front = h.front; back = h.back; joined = h.joined; first = f h.front h.first; second = g h.back h.second }
-
--- nothing behind
-ended : {A B : List ℕ → Type 0} (text : List ℕ) → A text → B [] → IsJoined A B text
-ended text a b = record { front = text; back = []; joined = sym (append-nil text); first = a; second = b }
 
 literal_there : (form : Form) (n : List ℕ) → IsText form n → (text : List ℕ) → Free (Literal n) text → IsText (free (32 ∷ []) form) text
 literal_there form n fine text h = record { front = h.front; back = h.back; joined = h.joined; first = h.first; second = subst (IsText form) (sym (text_exact n h.back h.second)) fine }
@@ -235,23 +228,23 @@ valid_literals (item.Null false) h = (tt, tt)
 -- ---- items
 
 item_there : (x : DateItem) (text : List ℕ) → IsValid x → Run (item_tokens x) text → IsText item_form text
-item_there (item.In date) text v h = inl (ended text (last_there date_form date (one_date test.In date v.0 v.1) text h) (inr refl))
+item_there (item.In date) text v h = inl (nothing_behind text (last_there date_form date (one_date test.In date v.0 v.1) text h) (inr refl))
 item_there (item.FromTo from upto) text v h =
     let d = two_dates from upto v.0 v.1 in
-    inl (both (literal_there date_form from d.0) (λ t r. inl (both (λ t k. k) (last_there date_form upto d.1) r)) h)
+    inl (parts_changed (literal_there date_form from d.0) (λ t r. inl (parts_changed (λ t k. k) (last_there date_form upto d.1) r)) h)
 item_there (item.Recent count period plurality) text v h =
-    inr (inl (both (literal_there count_form count (one_count (λ n. test.Recent n period) count v.0 v.1)) (λ t r. ended t (units_there period plurality t (last_word (word.Unit period plurality) t r)) (inr refl)) h))
+    inr (inl (parts_changed (literal_there count_form count (one_count (λ n. test.Recent n period) count v.0 v.1)) (λ t r. nothing_behind t (units_there period plurality t (last_word (word.Unit period plurality) t r)) (inr refl)) h))
 item_there (item.Ago count period plurality) text v h =
-    inr (inl (both (literal_there count_form count (one_count (λ n. test.Ago n period) count v.0 v.1)) (λ t r. both (units_there period plurality) (λ t k. inl (last_word word.Ago t k)) r) h))
-item_there (item.Before date) text v h = inr (inr (inl (both (λ t w. inl w) (last_there date_form date (one_date test.Before date v.0 v.1)) h)))
-item_there (item.After date) text v h = inr (inr (inl (both (λ t w. inr w) (last_there date_form date (one_date test.After date v.0 v.1)) h)))
+    inr (inl (parts_changed (literal_there count_form count (one_count (λ n. test.Ago n period) count v.0 v.1)) (λ t r. parts_changed (units_there period plurality) (λ t k. inl (last_word word.Ago t k)) r) h))
+item_there (item.Before date) text v h = inr (inr (inl (parts_changed (λ t w. inl w) (last_there date_form date (one_date test.Before date v.0 v.1)) h)))
+item_there (item.After date) text v h = inr (inr (inl (parts_changed (λ t w. inr w) (last_there date_form date (one_date test.After date v.0 v.1)) h)))
 item_there (item.This period) text v h =
-    inr (inr (inr (inl (both (λ t w. inl w) (λ t r. period_there period (no_day period (test.This period) v.0 v.1) t (last_word (word.Unit period Singular) t r)) h))))
+    inr (inr (inr (inl (parts_changed (λ t w. inl w) (λ t r. period_there period (no_day period (test.This period) v.0 v.1) t (last_word (word.Unit period Singular) t r)) h))))
 item_there (item.Last period) text v h =
-    inr (inr (inr (inl (both (λ t w. inr w) (λ t r. period_there period (no_day period (test.Last period) v.0 v.1) t (last_word (word.Unit period Singular) t r)) h))))
+    inr (inr (inr (inl (parts_changed (λ t w. inr w) (λ t r. period_there period (no_day period (test.Last period) v.0 v.1) t (last_word (word.Unit period Singular) t r)) h))))
 item_there item.Today text v h = inr (inr (inr (inr (inl (last_word word.Today text h)))))
 item_there item.Yesterday text v h = inr (inr (inr (inr (inr (inl (last_word word.Yesterday text h))))))
-item_there (item.Null true) text v h = inr (inr (inr (inr (inr (inr (both (λ t w. inl w) (last_word word.Null) h))))))
+item_there (item.Null true) text v h = inr (inr (inr (inr (inr (inr (parts_changed (λ t w. inl w) (last_word word.Null) h))))))
 item_there (item.Null false) text v h =
     inr (inr (inr (inr (inr (inr (record { front = []; back = text; joined = refl; first = inr refl; second = last_word word.Null text h }))))))
 
@@ -319,7 +312,7 @@ item_back text (inr (inr (inr (inr (inr (inr h)))))) = negated h.first
     negated (inr none) = (item.Null false, (test.Null, refl), subst (Run (Word word.Null ∷ [])) (sym (h.joined ∙ ap (λ z. z ++ h.back) none)) (word_last word.Null h.back h.second))
 
 more_there : (x : DateItem) (text : List ℕ) → IsValid x → Run (more_tokens x) text → IsText further_form text
-more_there x text v h = both (λ t w. w) (λ t r. item_there x t v r) h
+more_there x text v h = parts_changed (λ t w. w) (λ t r. item_there x t v r) h
 
 more_back : (text : List ℕ) → IsText further_form text → (x : DateItem) × IsValid x × Run (more_tokens x) text
 more_back text h =

@@ -9,7 +9,8 @@ use Rattle.lk_grammar.specs.Tokens.{tokens_form, tokens_of, AreClear}
 use Rattle.lk_grammar.specs.Literals.{token_form, first_of, is_ended, next_starts, is_next_token, IsClearToken, IsLiteralOf}
 use Rattle.lk_grammar.specs.Numbers.{begins_no_digit}
 use Rattle.lk_grammar.specs.declared.literals.Token.TheVariants.{Word, Literal}
-use Rattle.lk_grammar.proofs.FormLaws.{both}
+use Rattle.lk_grammar.proofs.FormLaws.{both, no_cons}
+use Rattle.lk_grammar.proofs.WordLaws.{no_small}
 use Rattle.lk_grammar.proofs.LiteralLaws.{tokens_lex}
 use Rattle.lk_grammar.proofs.TokenLaws.{tokens_spelled}
 use Rattle.lk_types.specs.declared.filter.Filter.{Filter}
@@ -86,13 +87,6 @@ apart_items [] = refl
 apart_items (x ∷ more) = apart_item x (further_tokens more_tokens more) (further_ends more) (apart_further more)
 
 -- ---- a token is read as itself
-
-no_cons : {A : Type 0} {x : A} {xs : List A} → [] ≡ x ∷ xs → ⊥
-no_cons e = cc
-
-no_small : (b : ℕ) → b ≤ 57 → is_small b ≡ false
-no_small b h =
-    is_false (is_small b) (λ e. let from : 97 ≤ b = leb-true 97 b (both (nat_le 97 b) (nat_le b 122) e).0 in omega arith)
 
 digit_is_word : (b : ℕ) → 48 ≤ b → b ≤ 57 → is_word (32 ∷ []) (b ∷ []) ≡ true
 digit_is_word b low high = rw (is_false (nat_eq b 32) (λ e. let is : b ≡ 32 = same b 32 e in omega arith), no_small b high) refl

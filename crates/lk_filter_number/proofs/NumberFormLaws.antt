@@ -7,6 +7,7 @@ use Rattle.lk_grammar.specs.Words.{free}
 use Rattle.lk_grammar.specs.Literals.{token_form, IsLiteralOf}
 use Rattle.lk_grammar.specs.Numbers.{number}
 use Rattle.lk_grammar.specs.declared.literals.Token.TheVariants.{Word, Literal}
+use Rattle.lk_grammar.proofs.FormLaws.{parts_changed, nothing_behind}
 use Rattle.lk_grammar.proofs.LiteralLaws.{exact_text, text_exact}
 use Rattle.lk_grammar.proofs.PlaceLaws.{same_judgement}
 use Rattle.lk_grammar.specs.Listed.{run_form, further_tokens, listed}
@@ -38,14 +39,6 @@ Run tokens text = IsText (run_form (32 ∷ []) (token_form letters_of) tokens) t
 
 abbrev Fine : List NumberToken → Type 0
 Fine tokens = AllByRecursion (IsLiteralOf number) tokens
-
--- both parts of a joined text changed
-both : {A B C D : List ℕ → Type 0} {text : List ℕ} → ((t : List ℕ) → A t → C t) → ((t : List ℕ) → B t → D t) → IsJoined A B text → IsJoined C D text
-both f g h = record { front = h.front; back = h.back; joined = h.joined; first = f h.front h.first; second = g h.back h.second }
-
--- nothing behind
-ended : {A B : List ℕ → Type 0} (text : List ℕ) → A text → B [] → IsJoined A B text
-ended text a b = record { front = text; back = []; joined = sym (append-nil text); first = a; second = b }
 
 fine_front : (xs ys : List NumberToken) → Fine (xs ++ ys) → Fine xs
 fine_front [] ys h = tt
@@ -91,7 +84,7 @@ order_back text (inr (inr (inl h))) = (order.Less, h)
 order_back text (inr (inr (inr h))) = (order.Greater, h)
 
 compared_there : (c : Compared) → IsText number c.number → (text : List ℕ) → Run (Word (order_word c.comparison) ∷ Literal c.number ∷ []) text → IsText compared_form text
-compared_there c fine text h = both (order_there c.comparison) (λ t r. number_there c.number fine t (only (32 ∷ []) (token_form letters_of) (Literal c.number) t r)) h
+compared_there c fine text h = parts_changed (order_there c.comparison) (λ t r. number_there c.number fine t (only (32 ∷ []) (token_form letters_of) (Literal c.number) t r)) h
 
 record IsCompared (text : List ℕ) : Type 0 where
   c : Compared
@@ -119,7 +112,7 @@ ands_there (c ∷ more) fine text h =
     record {
       parts = p.front ∷ rest.parts;
       joined = p.joined ∙ ap (λ z. p.front ++ z) rest.joined;
-      each = (both (λ t k. k) (compared_there c fine.1.1.0) p.first, rest.each);
+      each = (parts_changed (λ t k. k) (compared_there c fine.1.1.0) p.first, rest.each);
     }
 
 record AreAnds (text : List ℕ) : Type 0 where
@@ -172,8 +165,8 @@ two_back word_of a b text (inr h) = (b, h)
 
 interval_there : (bracket : Bracket) (low high : WrittenEnd) (close : Bracket) → Fine (range_tokens (Interval bracket low high close)) → (text : List ℕ) → Run (range_tokens (Interval bracket low high close)) text → IsText interval_form text
 interval_there bracket low high close fine text h =
-    both (open_there bracket)
-    (λ t. both (end_there low fine.1.0) (λ t. both (λ t k. k) (λ t. both (end_there high fine.1.1.1.0) (λ t r. close_there close t (only (32 ∷ []) (token_form letters_of) (Word (close_word close)) t r))))) h
+    parts_changed (open_there bracket)
+    (λ t. parts_changed (end_there low fine.1.0) (λ t. parts_changed (λ t k. k) (λ t. parts_changed (end_there high fine.1.1.1.0) (λ t r. close_there close t (only (32 ∷ []) (token_form letters_of) (Word (close_word close)) t r))))) h
 
 -- a range that is spelled
 record IsRange (text : List ℕ) : Type 0 where
@@ -220,11 +213,11 @@ interval_back text h =
 -- ---- ranges
 
 range_there : (r : NumberRange) → Fine (range_tokens r) → (text : List ℕ) → Run (range_tokens r) text → IsText range_form text
-range_there (Is n) fine text h = inl (ended text (number_there n fine.0 text (only (32 ∷ []) (token_form letters_of) (Literal n) text h)) (inr refl))
-range_there (From n) fine text h = inl (both (number_there n fine.0) (λ t r. inl (ended t (only (32 ∷ []) (token_form letters_of) (Word word.To) t r) (inr refl))) h)
-range_there (UpTo n) fine text h = inr (inl (both (λ t k. k) (λ t r. number_there n fine.1.0 t (only (32 ∷ []) (token_form letters_of) (Literal n) t r)) h))
+range_there (Is n) fine text h = inl (nothing_behind text (number_there n fine.0 text (only (32 ∷ []) (token_form letters_of) (Literal n) text h)) (inr refl))
+range_there (From n) fine text h = inl (parts_changed (number_there n fine.0) (λ t r. inl (nothing_behind t (only (32 ∷ []) (token_form letters_of) (Word word.To) t r) (inr refl))) h)
+range_there (UpTo n) fine text h = inr (inl (parts_changed (λ t k. k) (λ t r. number_there n fine.1.0 t (only (32 ∷ []) (token_form letters_of) (Literal n) t r)) h))
 range_there (Between m n) fine text h =
-    inl (both (number_there m fine.0) (λ t r. inl (both (λ t k. k) (λ t r. inl (number_there n fine.1.1.0 t (only (32 ∷ []) (token_form letters_of) (Literal n) t r))) r)) h)
+    inl (parts_changed (number_there m fine.0) (λ t r. inl (parts_changed (λ t k. k) (λ t r. inl (number_there n fine.1.1.0 t (only (32 ∷ []) (token_form letters_of) (Literal n) t r))) r)) h)
 range_there (Compare c more) fine text h =
     let p = run_parted (32 ∷ []) (token_form letters_of) (Word (order_word c.comparison) ∷ Literal c.number ∷ []) (and_tokens more) text h in
     inr (inr (inl (record { front = p.front; back = p.back; joined = p.joined; first = compared_there c fine.1.0 p.front p.first; second = ands_there more fine.1.1 p.back p.second })))
@@ -265,12 +258,12 @@ plain : (text : List ℕ) → (IsText range_form text ⊎ IsText (any_word (110 
 plain text h = record { front = []; back = text; joined = refl; first = inr refl; second = h }
 
 item_there : (x : NumberItem) (text : List ℕ) → Fine (item_tokens x) → Run (item_tokens x) text → IsText item_form text
-item_there (Range true r) text fine h = inl (both (λ t n. inl n) (λ t p. inl (range_there r fine.1 t p)) h)
+item_there (Range true r) text fine h = inl (parts_changed (λ t n. inl n) (λ t p. inl (range_there r fine.1 t p)) h)
 item_there (Range false r) text fine h = inl (plain text (inl (range_there r fine text h)))
-item_there (Null true) text fine h = inl (both (λ t n. inl n) (λ t p. inr (only (32 ∷ []) (token_form letters_of) (Word word.Null) t p)) h)
+item_there (Null true) text fine h = inl (parts_changed (λ t n. inl n) (λ t p. inr (only (32 ∷ []) (token_form letters_of) (Word word.Null) t p)) h)
 item_there (Null false) text fine h = inl (plain text (inr (only (32 ∷ []) (token_form letters_of) (Word word.Null) text h)))
-item_there (Unlike Exclamation n) text fine h = inr (both (λ t w. inr w) (λ t p. number_there n fine.1.0 t (only (32 ∷ []) (token_form letters_of) (Literal n) t p)) h)
-item_there (Unlike Angles n) text fine h = inr (both (λ t w. inl w) (λ t p. number_there n fine.1.0 t (only (32 ∷ []) (token_form letters_of) (Literal n) t p)) h)
+item_there (Unlike Exclamation n) text fine h = inr (parts_changed (λ t w. inr w) (λ t p. number_there n fine.1.0 t (only (32 ∷ []) (token_form letters_of) (Literal n) t p)) h)
+item_there (Unlike Angles n) text fine h = inr (parts_changed (λ t w. inl w) (λ t p. number_there n fine.1.0 t (only (32 ∷ []) (token_form letters_of) (Literal n) t p)) h)
 
 abbrev IsItem : List ℕ → Type 0
 IsItem text = (x : NumberItem) × Fine (item_tokens x) × Run (item_tokens x) text
@@ -303,7 +296,7 @@ between_there separator.Comma text h = inl h
 between_there separator.Or text h = inr h
 
 more_there : (x : FurtherItem) (text : List ℕ) → Fine (more_tokens x) → Run (more_tokens x) text → IsText further_form text
-more_there x text fine h = both (between_there x.separator) (λ t p. item_there x.item t fine.1 p) h
+more_there x text fine h = parts_changed (between_there x.separator) (λ t p. item_there x.item t fine.1 p) h
 
 more_back : (text : List ℕ) → IsText further_form text → (x : FurtherItem) × Fine (more_tokens x) × Run (more_tokens x) text
 more_back text h =

@@ -10,8 +10,8 @@ use Rattle.lk_grammar.specs.Tokens.{tokens_form, tokens_of, AreClear}
 use Rattle.lk_grammar.specs.Literals.{token_form, first_of, is_ended, next_starts, is_next_token, IsClearToken, IsLiteralOf}
 use Rattle.lk_grammar.specs.Numbers.{number, number_length, is_of_number, begins_no_number}
 use Rattle.lk_grammar.specs.declared.literals.Token.TheVariants.{Word, Literal}
-use Rattle.lk_grammar.proofs.WordLaws.{text_one}
-use Rattle.lk_grammar.proofs.FormLaws.{both}
+use Rattle.lk_grammar.proofs.WordLaws.{text_one, no_small}
+use Rattle.lk_grammar.proofs.FormLaws.{both, no_cons}
 use Rattle.lk_grammar.proofs.LiteralLaws.{tokens_lex}
 use Rattle.lk_grammar.proofs.TokenLaws.{tokens_spelled}
 use Rattle.lk_grammar.proofs.NumberLaws.{number_reader}
@@ -122,9 +122,6 @@ apart_items (Some items) = apart_item items.first (further_tokens more_tokens it
 
 -- ---- a token is read as itself
 
-no_cons : {A : Type 0} {x : A} {xs : List A} → [] ≡ x ∷ xs → ⊥
-no_cons e = cc
-
 -- a number begins with a digit or a `-`
 record IsNumberHead (text : List ℕ) : Type 0 where
   head : ℕ
@@ -150,13 +147,6 @@ is_not : (a b : ℕ) → (a ≡ b → ⊥) → nat_eq a b ≡ false
 is_not a b f =
     elim (nat_eq a b) as (λ e. nat_eq a b ≡ e → e ≡ false) [
       | true ↦ λ e. absurd (f ((Decides-eqb a b).0 e))
-      | false ↦ λ _. refl
-    ] refl
-
-no_small : (b : ℕ) → b ≤ 57 → is_small b ≡ false
-no_small b h =
-    elim (nat_le 97 b) as (λ e. nat_le 97 b ≡ e → (e && nat_le b 122) ≡ false) [
-      | true ↦ λ e. absurd (let from : 97 ≤ b = leb-true 97 b e in omega arith)
       | false ↦ λ _. refl
     ] refl
 

@@ -10,7 +10,8 @@ use Rattle.lk_grammar.specs.Tokens.{tokens_form, tokens_of, AreClear}
 use Rattle.lk_grammar.proofs.TokenLaws.{tokens_spelled}
 use Rattle.lk_grammar.proofs.WordLaws.{table_lexes}
 use Rattle.lk_types.specs.declared.filter.Filter.{Filter}
-use Rattle.lk_filter_number.specs.Truths.{letters_of, word_of, more_words, truth_words, with_truth, truths_behind, truths_of, truth_filter, IsTruthFilter, IsTruth, value_form, further_form, truth_form}
+use Rattle.lk_filter_number.specs.Truths.{letters_of, word_of, more_words, truth_words, truth_filter, IsTruthFilter, IsTruth}
+use Rattle.lk_filter_number.specs.TruthReading.{with_truth, truths_behind, truths_of, value_form, further_form, truth_form}
 use Rattle.lk_grammar.specs.Listed.{run_form, further_tokens, listed}
 use Rattle.lk_grammar.proofs.ListedLaws.{alone, only, listed_there, listed_back}
 use Rattle.lk_grammar.proofs.ReadingLaws.{of_each, none_some, some_is, read_is_spelled, spelled_is_read}

@@ -1,3 +1,4 @@
 pub mod Truths
+pub mod TruthReading
 pub mod Numbers
 pub mod NumberReading

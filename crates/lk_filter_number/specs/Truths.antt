@@ -1,9 +1,8 @@
 -- Filters of truth values: `Yes` or `No`, or several with commas between.
-use Rattle.std.specs.Prelude.{◌≡◌, ℕ, Bool, true, false, List, [], ◌∷◌, map, Option, Some, None, option_map, codes}
-use Rattle.lk_grammar.specs.Forms.{Form, seq, either, IsText}
-use Rattle.lk_grammar.specs.Words.{word, word_form}
+use Rattle.std.specs.Prelude.{◌≡◌, ℕ, Bool, true, false, List, [], ◌∷◌, map, Some, codes}
+use Rattle.lk_grammar.specs.Forms.{IsText}
+use Rattle.lk_grammar.specs.Words.{word_form}
 use Rattle.lk_grammar.specs.Tokens.{tokens_form}
-use Rattle.lk_grammar.specs.Listed.{listed}
 use Rattle.lk_types.specs.declared.filter.Filter.{Filter}
 use Rattle.lk_types.specs.declared.filter.Test.TheVariants.{Truth}
 use Rattle.lk_filter_number.specs.declared.truth.TruthWord.{TruthWord}
@@ -40,44 +39,6 @@ IsTruthText values text = IsText (tokens_form (32 ∷ []) (word_form letters_of)
 abbrev pub IsTruthFilter : Filter → List ℕ → Type 0
 IsTruthFilter f text = (values : List Bool) × IsTruthText values text × (Some (truth_filter values) ≡ Some f)
 
--- ---- how the values are read from the words
-
-abbrev pub truth_of : TruthWord → Option Bool
-truth_of Yes = Some true
-truth_of No = Some false
-truth_of Comma = None
-
--- the value, and those behind it
-abbrev pub with_truth : Option Bool → Option (List Bool) → Option (List Bool)
-with_truth None more = None
-with_truth (Some b) more = option_map (λ values. b ∷ values) more
-
-abbrev mutual
-  pub truths_from : List TruthWord → Option (List Bool)
-  truths_from [] = None
-  truths_from (word ∷ words) = with_truth (truth_of word) (truths_behind words)
-
-  pub truths_behind : List TruthWord → Option (List Bool)
-  truths_behind [] = Some []
-  truths_behind (Comma ∷ words) = truths_from words
-  truths_behind (Yes ∷ words) = None
-  truths_behind (No ∷ words) = None
-
-abbrev pub truths_of : List TruthWord → Option (List Bool)
-truths_of [] = Some []
-truths_of (word ∷ words) = truths_from (word ∷ words)
-
--- ---- the grammar as a form
-
 -- the text is a filter of truth values
 abbrev pub IsTruth : List ℕ → Type 0
 IsTruth text = (f : Filter) × IsTruthFilter f text
-
-abbrev pub value_form : Form
-value_form = either (word (32 ∷ []) (codes "yes")) (word (32 ∷ []) (codes "no"))
-
-abbrev pub further_form : Form
-further_form = seq (word (32 ∷ []) (codes ",")) value_form
-
-unfoldable pub truth_form : Form
-truth_form = listed (32 ∷ []) value_form further_form

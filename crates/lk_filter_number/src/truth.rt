@@ -1,7 +1,8 @@
 ghost use Rattle.std.specs.Prelude.{◌≡◌, ◌++◌, List, Some, IfOk, IfSome, option_map};
 ghost use Rattle.lk_grammar.specs.Forms.{IsText};
 ghost use Rattle.lk_grammar.specs.Places.{Judges};
-ghost use Rattle.lk_filter_number.specs.Truths.{IsTruthFilter, IsTruth, truth_of, truths_of, truth_filter, value_form, further_form, truth_form};
+ghost use Rattle.lk_filter_number.specs.Truths.{IsTruthFilter, IsTruth, truth_filter};
+ghost use Rattle.lk_filter_number.specs.TruthReading.{truth_of, truths_of, value_form, further_form, truth_form};
 ghost use Rattle.lk_types.specs.declared.filter.Filter.{Filter};
 
 use lk_grammar::{Form, Word, judge, listed, read_words};
@@ -83,14 +84,14 @@ pub fn judge_truths(alloc: Global, text: &[u8]) -> Result<Option<usize>, NoMemor
     judge_truth_form(alloc, text)
 }
 
-#[tactic(auto, unfolding(crate::specs::Truths::truth_form))]
+#[tactic(auto, unfolding(crate::specs::TruthReading::truth_form))]
 fn judge_truth_form(alloc: Global, text: &[u8]) -> Result<Option<usize>, NoMemory>
     ensures { IfOk result (Judges (IsText truth_form) text.now) }
 {
     judge(alloc, &truth_form(alloc)?, text)
 }
 
-#[tactic(auto, unfolding(crate::specs::Truths::truth_form))]
+#[tactic(auto, unfolding(crate::specs::TruthReading::truth_form))]
 fn truth_form(alloc: Global) -> Result<Form, NoMemory>
     ensures { IfOk result (λ form. form ≡ truth_form) }
 {

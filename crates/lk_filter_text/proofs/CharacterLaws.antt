@@ -6,7 +6,7 @@ use Rattle.lk_grammar.specs.Forms.{Form, IsText, byte, seq}
 use Rattle.lk_grammar.specs.Words.{letters, is_small}
 use Rattle.lk_grammar.specs.Tokens.{IsBegun}
 use Rattle.lk_grammar.specs.Literals.{is_ended, IsLiteralReader}
-use Rattle.lk_grammar.proofs.FormLaws.{both, and_both, one_of}
+use Rattle.lk_grammar.proofs.FormLaws.{both, and_both, one_of, no_cons}
 use Rattle.lk_grammar.proofs.WordLaws.{text_char}
 use Rattle.lk_filter_text.specs.Characters.{later, long_character, letter_byte, plain_form, is_in, is_plain_byte, ends_one, ends_two, ends_three, begins_two, begins_three, begins_four, character_length, begins_mark, goes_on}
 
@@ -267,9 +267,6 @@ character_found text rest (inr (inr (inl h))) ended = byte_found text rest h
 character_found text rest (inr (inr (inr h))) ended = long_found text rest h
 
 -- a text whose found length is its own is not empty
-no_cons : {A : Type 0} {x : A} {xs : List A} → [] ≡ x ∷ xs → ⊥
-no_cons e = cc
-
 begun : (text : List ℕ) → IsText plain_form text → IsBegun [] text
 begun [] h = absurd (empty_none h)
   where

@@ -10,7 +10,7 @@ use Rattle.lk_grammar.specs.Tokens.{tokens_form}
 use Rattle.lk_grammar.specs.Literals.{token_form, IsLiteralOf}
 use Rattle.lk_grammar.specs.declared.literals.Token.TheVariants.{Word, Literal}
 use Rattle.lk_grammar.proofs.LiteralLaws.{exact_text, text_exact}
-use Rattle.lk_grammar.proofs.FormLaws.{both, and_both}
+use Rattle.lk_grammar.proofs.FormLaws.{both, and_both, no_cons}
 use Rattle.lk_grammar.proofs.PlaceLaws.{same_judgement}
 use Rattle.lk_grammar.specs.Listed.{further_tokens}
 use Rattle.lk_filter_text.specs.Characters.{later, long_character, letter_form, plain_form}
@@ -112,9 +112,6 @@ fine_spaces zero = tt
 fine_spaces (suc n) = (inl (alone_byte 32), fine_spaces n)
 
 -- ---- marks and characters
-
-no_cons : {A : Type 0} {x : A} {xs : List A} → [] ≡ x ∷ xs → ⊥
-no_cons e = cc
 
 turned : (b : Bool) → not b ≡ true → b ≡ false
 turned true h = absurd (false≢true h)

@@ -4,15 +4,12 @@ use Rattle.std.specs.List.{AllByRecursion}
 use Rattle.std.proofs.lemmas.Bool.{false≢true}
 use Rattle.std.proofs.lemmas.Bool.Decides.{Decides-eqb}
 use Rattle.lk_grammar.specs.declared.literals.Token.TheVariants.{Word, Literal}
-use Rattle.lk_grammar.proofs.FormLaws.{both, and_both}
+use Rattle.lk_grammar.proofs.FormLaws.{both, and_both, no_cons}
 use Rattle.lk_grammar.specs.Listed.{further_tokens}
 use Rattle.lk_filter_text.specs.declared.words.TextWord.TheVariants.{Comma}
 use Rattle.lk_filter_text.specs.Texts.{TextToken, space, minus, is_character, is_space, is_minus, is_comma, TextItem, spaces, minus_tokens, item_tokens, begins_solid, ends_solid, has_no_comma, IsTextItem, TextItems, more_tokens, text_tokens, AreTextItems, Part, is_some_number, part_of, parts_of, blank, items}
 use Rattle.lk_filter_text.specs.TextReading.{without_front, with_front, without_end, pattern_of, solid_part, read_part, between_commas, with_part, read_parts, are_spaces, read_all}
 use Rattle.lk_grammar.proofs.ReadingLaws.{none_some, some_is}
-
-no_cons : {A : Type 0} {x : A} {xs : List A} → [] ≡ x ∷ xs → ⊥
-no_cons e = cc
 
 turned : (b : Bool) → not b ≡ true → b ≡ false
 turned true h = absurd (false≢true h)

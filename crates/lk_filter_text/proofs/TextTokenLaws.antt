@@ -1,6 +1,7 @@
 -- Filters of texts: each mark and each character stands clear of what is behind it.
 use Rattle.std.proofs.Common.{◌≡◌, inl, inr, ℕ, true, false, not, ◌&&◌, List, [], ◌∷◌, Option, Some, None, IfSome, option_map, refl, sym, ap, subst, ◌∙◌, arith}
 use Rattle.std.specs.List.{AllByRecursion}
+use Rattle.lk_grammar.proofs.FormLaws.{no_cons}
 use Rattle.lk_grammar.specs.Forms.{IsText}
 use Rattle.lk_grammar.specs.Words.{is_word, is_small, IsFirst}
 use Rattle.lk_grammar.specs.Tokens.{tokens_form, tokens_of, AreClear}
@@ -53,9 +54,6 @@ first word.QuotedOne rest = inr (refl, inr (refl, inr (refl, inr (refl, inr (ref
 first word.QuotedQuote rest = inr (refl, inr (refl, inr (refl, inr (refl, inr (refl, inr (refl, inl refl))))))
 first word.QuotedMinus rest = inr (refl, inr (refl, inr (refl, inr (refl, inr (refl, inr (refl, inr (refl, inl refl)))))))
 first word.QuotedCaret rest = inr (refl, inr (refl, inr (refl, inr (refl, inr (refl, inr (refl, inr (refl, inr (refl, inl refl))))))))
-
-no_cons : {A : Type 0} {x : A} {xs : List A} → [] ≡ x ∷ xs → ⊥
-no_cons e = cc
 
 has_byte : (b : ℕ) → is_word [] (b ∷ []) ≡ true
 has_byte b = elim (is_small b) as (λ s. (true && not (s && false)) ≡ true) [ true ↦ refl | false ↦ refl ]

@@ -1,10 +1,10 @@
 -- Forms: which have the empty text, which have a text at all, and which are written alike.
-use Rattle.std.proofs.Common.{◌≡◌, ◌⊎◌, inl, inr, ℕ, zero, suc, ◌<◌, ◌≤◌, Bool, true, false, not, ◌&&◌, ◌||◌, nat_eq, nat_lt, List, [], ◌∷◌, ◌++◌, length, refl, sym, ap, subst, ◌∙◌, arith}
+use Rattle.std.proofs.Common.{◌≡◌, ◌⊎◌, inl, inr, ℕ, zero, suc, ◌<◌, ◌≤◌, Bool, true, false, not, ◌&&◌, ◌||◌, nat_eq, nat_lt, List, [], ◌∷◌, ◌++◌, length, refl, sym, ap, subst, ◌∙◌, append-nil, arith}
 use Rattle.std.proofs.lemmas.Bool.{false≢true, ltb-true, ltb-false, leb-true, le-leb}
 use Rattle.std.proofs.lemmas.Bool.Decides.{Decides-ltb, Decides-eqb}
 use Rattle.std.proofs.Math.ListN.{get_or-eq_default}
 use Rattle.lk_grammar.specs.Places.{IsViable}
-use Rattle.lk_grammar.specs.Forms.{Form, nothing, empty, byte, seq, either, many, nested, IsSpelled, IsRuleText, rule_at, may_end, is_live, are_sound, is_same_form}
+use Rattle.lk_grammar.specs.Forms.{Form, nothing, empty, byte, seq, either, many, nested, IsSpelled, IsJoined, IsRuleText, rule_at, may_end, is_live, are_sound, is_same_form}
 
 pub both : (a b : Bool) → (a && b) ≡ true → (a ≡ true) × (b ≡ true)
 both true true h = (refl, refl)
@@ -28,6 +28,17 @@ or_other false b q = q
 pub nil_parts : (x y : List ℕ) → [] ≡ x ++ y → (x ≡ []) × (y ≡ [])
 nil_parts [] y e = (refl, sym e)
 nil_parts (b ∷ x) y e = cc
+
+pub no_cons : {A : Type 0} {x : A} {xs : List A} → [] ≡ x ∷ xs → ⊥
+no_cons e = cc
+
+-- both parts of a joined text changed
+pub parts_changed : {A B C D : List ℕ → Type 0} {text : List ℕ} → ((t : List ℕ) → A t → C t) → ((t : List ℕ) → B t → D t) → IsJoined A B text → IsJoined C D text
+parts_changed f g h = record { front = h.front; back = h.back; joined = h.joined; first = f h.front h.first; second = g h.back h.second }
+
+-- a text with nothing behind
+pub nothing_behind : {A B : List ℕ → Type 0} (text : List ℕ) → A text → B [] → IsJoined A B text
+nothing_behind text a b = record { front = text; back = []; joined = sym (append-nil text); first = a; second = b }
 
 module _ (Rule : ℕ → List ℕ → Type 0) where
   -- the empty text is of a form that may end

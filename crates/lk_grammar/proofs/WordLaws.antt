@@ -11,6 +11,14 @@ use Rattle.lk_grammar.specs.Tokens.{tokens_form, IsBegun, IsLexer}
 use Rattle.lk_grammar.proofs.TokenLaws.{any_text}
 use Rattle.lk_grammar.proofs.FormLaws.{both, and_both, one_of, or_one, or_other}
 
+-- no byte up to the digits is a small letter
+pub no_small : (b : ℕ) → b ≤ 57 → is_small b ≡ false
+no_small b h =
+    elim (nat_le 97 b) as (λ e. nat_le 97 b ≡ e → (e && nat_le b 122) ≡ false) [
+      | true ↦ λ e. absurd (let from : 97 ≤ b = leb-true 97 b e in omega arith)
+      | false ↦ λ _. refl
+    ] refl
+
 -- a text that begins with a space
 pub record IsWhiteHead (white text : List ℕ) : Type 0 where
   pub head : ℕ

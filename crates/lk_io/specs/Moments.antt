@@ -1,21 +1,11 @@
 -- The moments that a clock tells, in seconds from 1970-01-01 00:00:00 UTC.
-use Rattle.std.specs.Prelude.{ℤ, pos, neg_ℤ, ◌≤ℤ◌, nat_lt, if◌then◌else◌, List, drop, length}
+use Rattle.std.specs.Prelude.{ℤ, nat_lt, if◌then◌else◌, List, drop, length}
 use Rattle.std.specs.Int.{int_min, int_max}
+use Rattle.lk_val.specs.Years.{first_second, last_second}
 
--- the first and the last second of the years 1 to 9999
-abbrev pub first_moment : ℤ
-first_moment = neg_ℤ (pos 62135596800)
-
-abbrev pub last_moment : ℤ
-last_moment = pos 253402300799
-
--- a second of these years
-abbrev pub IsMoment : ℤ → Type 0
-IsMoment moment = (first_moment ≤ℤ moment) × (moment ≤ℤ last_moment)
-
--- a moment, or the nearer end of these years
+-- a moment, or the nearer end of the years 1 to 9999
 abbrev pub within_years : ℤ → ℤ
-within_years moment = int_max first_moment (int_min moment last_moment)
+within_years moment = int_max first_second (int_min moment last_second)
 
 -- what is told after the first of these moments: the last one repeats
 abbrev pub later : List ℤ → List ℤ

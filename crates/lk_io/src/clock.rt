@@ -1,6 +1,7 @@
 ghost use Rattle.std.specs.Prelude.{◌≡◌, ℤ, List, Option, Some, IfOk, IfSome, slice_get};
 ghost use Rattle.std.specs.Option.{option_map};
-ghost use Rattle.lk_io.specs.Moments.{IsMoment, later};
+ghost use Rattle.lk_io.specs.Moments.{later};
+ghost use Rattle.lk_val.specs.Years.{IsMomentInYears};
 
 use lk_val::NoMemory;
 use std::alloc::Global;
@@ -18,7 +19,7 @@ pub trait Clock: Send + Sized {
 
     /// The next moment, in seconds from 1970-01-01 00:00:00 UTC.
     fn now(&mut self) -> i64
-        ensures years { IsMoment result }
+        ensures years { IsMomentInYears result }
         ensures first { IfSome (moments self.old) (λ told. slice_get told 0 ≡ Some result) }
         ensures later { moments self.new ≡ option_map later (moments self.old) };
 

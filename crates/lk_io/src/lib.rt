@@ -19,6 +19,7 @@ mod real_clock;
 mod sink;
 mod source;
 
+pub use calls::Calls;
 pub use clock::{Clock, FIRST_MOMENT, LAST_MOMENT};
 pub use faults::{Failed, FileFault};
 pub use files::{FILE_LIMIT, File, Files};

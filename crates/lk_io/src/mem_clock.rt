@@ -1,5 +1,6 @@
 ghost use Rattle.std.specs.Prelude.{◌≡◌, ◌<◌, Some, IfOk, length, map, slice_get};
-ghost use Rattle.lk_io.specs.Moments.{IsMoment, later, within_years};
+ghost use Rattle.lk_io.specs.Moments.{later, within_years};
+ghost use Rattle.lk_val.specs.Years.{IsMomentInYears};
 
 use crate::clock::{Clock, FIRST_MOMENT, LAST_MOMENT};
 use lk_val::{Items, NoMemory};
@@ -42,7 +43,7 @@ impl Clock for MemClock {
     ghost moments = { λ clock. Some clock };
 
     fn now(&mut self) -> i64
-        ensures years { IsMoment result }
+        ensures years { IsMomentInYears result }
         ensures first { slice_get self.old 0 ≡ Some result }
         ensures later { self.new ≡ later self.old }
     {

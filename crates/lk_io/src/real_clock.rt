@@ -1,5 +1,5 @@
 ghost use Rattle.std.specs.Prelude.{◌≡◌, None, IfOk, pos};
-ghost use Rattle.lk_io.specs.Moments.{IsMoment};
+ghost use Rattle.lk_val.specs.Years.{IsMomentInYears};
 ghost use Rattle.lk_io.specs.System.{clock_runtime, clock_last};
 
 use crate::clock::{Clock, FIRST_MOMENT, LAST_MOMENT};
@@ -38,7 +38,7 @@ impl<R: rt::Clock + Clone + Drop + Send> Clock for RealClock<R> {
     /// The system's time, cut to the nearer end of the years 1 to 9999. Where the system gives none, the
     /// last moment again, and 0 before any.
     fn now(&mut self) -> i64
-        ensures years { IsMoment result }
+        ensures years { IsMomentInYears result }
 
         ensures last { clock_last self.new ≡ result }
     {

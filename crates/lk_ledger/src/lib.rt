@@ -1,7 +1,6 @@
 //! Saved loads: what a store of them tells, hands over and keeps, and the store in memory.
 #![tactic(auto)]
 
-mod calls;
 mod command;
 mod faults;
 mod keeper;

@@ -1,14 +1,14 @@
 ghost use Rattle.std.specs.Prelude.{◌≡◌, ◌≤◌, ◌↔◌, Some, IfOk, OnOk, OnErr, IsErrOf, IsTrue, vec_len};
 ghost use Rattle.std.specs.Vec.{vec_capacity};
 ghost use Rattle.lk_ledger.specs.Causes.{HasKeepCause};
-ghost use Rattle.lk_ledger.specs.Memory.{no_calls, is_due, after_call};
+ghost use Rattle.lk_io.specs.Memory.{no_calls, is_due, after_call};
 ghost use Rattle.lk_ledger.specs.Saving.{other_chunks, after_load, after_check};
 
-use crate::calls::Calls;
 use crate::command::Command;
 use crate::faults::KeepFault;
 use crate::keeper::Keeper;
 use crate::kept::{Chunk, Kept, KeptId};
+use lk_io::Calls;
 use lk_val::{Copied, Items, NoMemory, Text};
 use std::alloc::Global;
 use std::marker::Model;
@@ -122,7 +122,7 @@ impl Keeper for MemKeeper {
         ensures cause { HasKeepCause self.old.calls.faults self.new.calls.faults result }
 
         ensures fails { IsErrOf result KeepFault.Failed ↔ IsTrue (is_due self.old.calls) }
-        ensures calls { self.new.calls ≡ after_call self.old.calls }
+        ensures calls { self.new.calls ≡ after_call (is_due self.old.calls) self.old.calls }
     {
         if self.calls.count() {
             return Err(KeepFault::Failed);
@@ -136,7 +136,7 @@ impl Keeper for MemKeeper {
         ensures cause { HasKeepCause self.old.calls.faults self.new.calls.faults result }
 
         ensures fails { IsErrOf result KeepFault.Failed ↔ IsTrue (is_due self.old.calls) }
-        ensures calls { self.new.calls ≡ after_call self.old.calls }
+        ensures calls { self.new.calls ≡ after_call (is_due self.old.calls) self.old.calls }
     {
         if self.calls.count() {
             return Err(KeepFault::Failed);
@@ -150,7 +150,7 @@ impl Keeper for MemKeeper {
         ensures cause { HasKeepCause self.old.calls.faults self.new.calls.faults result }
 
         ensures fails { IsErrOf result KeepFault.Failed ↔ IsTrue (is_due self.old.calls) }
-        ensures calls { self.new.calls ≡ after_call self.old.calls }
+        ensures calls { self.new.calls ≡ after_call (is_due self.old.calls) self.old.calls }
     {
         if self.calls.count() {
             return Err(KeepFault::Failed);

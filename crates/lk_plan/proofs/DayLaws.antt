@@ -8,7 +8,8 @@ use Rattle.std.proofs.lemmas.Int.{ints}
 use Rattle.lk_val.specs.Values.{is_null}
 use Rattle.lk_val.specs.declared.value.Value.TheVariants as value
 use Rattle.lk_types.specs.Calendar.{midnight, day_of_moment, second_of_moment}
-use Rattle.lk_types.specs.Dates.{first_day, last_day, IsDayInYears, IsMomentInYears, is_dated}
+use Rattle.lk_val.specs.Years.{first_day, last_day, IsDayInYears, IsMomentInYears}
+use Rattle.lk_types.specs.Dates.{is_dated}
 use Rattle.lk_types.specs.Expressions.{value_of}
 use Rattle.lk_types.specs.Filters.{day_meets, null_meets}
 use Rattle.lk_types.specs.Formula.{Formula}

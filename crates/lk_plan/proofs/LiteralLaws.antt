@@ -7,7 +7,8 @@ use Rattle.std.proofs.lemmas.Int.{ints}
 use Rattle.lk_val.specs.declared.num.Num.{Num}
 use Rattle.lk_val.specs.declared.value.Value.{Value}
 use Rattle.lk_val.specs.declared.value.Value.TheVariants as value
-use Rattle.lk_types.specs.Dates.{first_day, last_day, is_dated, are_literals_dated, are_cases_dated}
+use Rattle.lk_val.specs.Years.{first_day, last_day}
+use Rattle.lk_types.specs.Dates.{is_dated, are_literals_dated, are_cases_dated}
 use Rattle.lk_types.specs.Formula.{Formula, Literal, Not, And, Or, Compare, IsNull}
 use Rattle.lk_types.specs.declared.expr.Comparison.{Comparison}
 use Rattle.lk_types.specs.declared.expr.Comparison.TheVariants as comparison

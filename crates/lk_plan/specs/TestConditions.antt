@@ -4,7 +4,7 @@ use Rattle.lk_val.specs.declared.num.Num.{Num}
 use Rattle.lk_val.specs.declared.value.Value.{Value}
 use Rattle.lk_val.specs.declared.value.Value.TheVariants as value
 use Rattle.lk_types.specs.Calendar.{midnight}
-use Rattle.lk_types.specs.Dates.{first_day, last_day}
+use Rattle.lk_val.specs.Years.{first_day, last_day}
 use Rattle.lk_types.specs.Formula.{Formula, Literal, Or, Compare, IsNull, Like}
 use Rattle.lk_types.specs.declared.expr.Comparison.{Comparison}
 use Rattle.lk_types.specs.declared.expr.Comparison.TheVariants as comparison

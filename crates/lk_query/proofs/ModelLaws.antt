@@ -6,7 +6,7 @@ use Rattle.std.specs.List.{AllByRecursion, list_all, position_or_len}
 use Rattle.std.proofs.lemmas.Bool.{and_from, and_parts, false≢true, leb-true, lt-ltb, ltb-true}
 use Rattle.std.proofs.lemmas.List.Folds.{list_all-append, list_all-map}
 use Rattle.lk_val.specs.Texts.{is_same_text}
-use Rattle.lk_types.specs.Dates.{IsMomentInYears}
+use Rattle.lk_val.specs.Years.{IsMomentInYears}
 use Rattle.lk_types.specs.Expressions.{has_number}
 use Rattle.lk_types.specs.Filters.{is_filter_of, is_placed, placed}
 use Rattle.lk_types.specs.declared.bound.Bound.{Bound}

@@ -8,7 +8,7 @@ use Rattle.std.proofs.lemmas.Bool.Decides.{nat_tests}
 use Rattle.std.proofs.lemmas.Int.{ints}
 use Rattle.std.proofs.lemmas.List.Folds.{list_all-map}
 use Rattle.lk_types.specs.Calendar.{day_of_moment, from_1970, from_year_one}
-use Rattle.lk_types.specs.Dates.{IsMomentInYears}
+use Rattle.lk_val.specs.Years.{IsMomentInYears}
 use Rattle.lk_filter.proofs.PlacingLaws.{placed-placed}
 use Rattle.lk_filter.proofs.UnitLaws.{climbs, unit_grows, unit_has}
 use Rattle.lk_types.specs.Filters.{are_days, days_of_units, has_relative, is_count, is_date_test, is_exclude_of, is_filter_of, is_include_of, is_null_test, is_number_test, is_relative, is_text_test, is_truth_test, placed, placed_test, today_at, unit_of, unit_start}

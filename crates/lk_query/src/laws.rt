@@ -2,7 +2,7 @@
 
 ghost use Rattle.std.specs.Prelude.{◌≡◌, ◌≤◌, ℕ, ℤ, List, Ok, Result, length, true};
 ghost use Rattle.std.specs.List.{AllByRecursion};
-ghost use Rattle.lk_types.specs.Dates.{IsMomentInYears};
+ghost use Rattle.lk_val.specs.Years.{IsMomentInYears};
 ghost use Rattle.lk_types.specs.Filters.{is_filter_of, placed};
 ghost use Rattle.lk_types.specs.declared.bound.Bound.{Bound};
 ghost use Rattle.lk_types.specs.declared.bound.Query.{Query};

@@ -2,7 +2,7 @@
 use Rattle.std.specs.Prelude.{◌≡◌, ◌⊎◌, ℤ, IfSome, nat_le, false, if◌then◌else◌, List, length, ℕ, Option, Some, None, Result, Ok, Err, true}
 use Rattle.lk_val.specs.declared.fault.FaultLine.{FaultLine}
 use Rattle.lk_io.specs.declared.files.File.{File}
-use Rattle.lk_types.specs.Dates.{IsMomentInYears}
+use Rattle.lk_val.specs.Years.{IsMomentInYears}
 use Rattle.lk_types.specs.declared.answer.Reply as sent
 use Rattle.lk_types.specs.declared.model.Model.{Model}
 use Rattle.lk_ask.specs.Asks.{is_no_memory}

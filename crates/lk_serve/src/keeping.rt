@@ -1,5 +1,5 @@
 ghost use Rattle.std.specs.Prelude.{◌≡◌, [], IfOk};
-ghost use Rattle.lk_ledger.specs.Memory.{no_calls};
+ghost use Rattle.lk_io.specs.Memory.{no_calls};
 ghost use Rattle.lk_serve.specs.Keeping.{IsKeeperFor, asks_for_a_server, empty_kept, is_number_of_workers};
 
 use crate::words::have_dash;

@@ -3,7 +3,7 @@ ghost use Rattle.std.specs.List.{All};
 ghost use Rattle.std.specs.Option.{option_map};
 ghost use Rattle.lk_io.specs.Causes.{Rose};
 ghost use Rattle.lk_io.specs.Moments.{later};
-ghost use Rattle.lk_types.specs.Dates.{IsMomentInYears};
+ghost use Rattle.lk_val.specs.Years.{IsMomentInYears};
 ghost use Rattle.lk_types.specs.Printing.{value_text};
 ghost use Rattle.lk_seed.specs.Seeds.{Seed, seeds_of};
 ghost use Rattle.lk_edition.specs.Offices.{AreSeeds, Begins, IsOpening, standing_in};

@@ -1,6 +1,6 @@
 ghost use Rattle.std.specs.Prelude.{◌≡◌, IfErr, IfOk, IfSome, Some};
 ghost use Rattle.std.specs.Io.KnownBytes.{IsAtEnd};
-ghost use Rattle.lk_types.specs.Dates.{IsMomentInYears};
+ghost use Rattle.lk_val.specs.Years.{IsMomentInYears};
 ghost use Rattle.lk_serve.specs.Queries.{IsAnswered, IsQueried, OverEdition, TellsSome};
 ghost use Rattle.lk_serve.specs.Replies.{ComesUnread};
 ghost use Rattle.lk_serve.specs.Runs.{IsAskedOnce, next_moment};

@@ -3,7 +3,7 @@ use Rattle.std.proofs.Common.{◌≡◌, ◌∙◌, ℕ, Bool, List, [], refl, s
 use Rattle.std.specs.Prelude.{ℤ, ◌||◌, IfOk, IfSome, IsSome, OnErr, Result, Ok, Err, slice_get}
 use Rattle.std.specs.Option.{option_map}
 use Rattle.lk_io.specs.Moments.{later}
-use Rattle.lk_types.specs.Dates.{IsMomentInYears}
+use Rattle.lk_val.specs.Years.{IsMomentInYears}
 use Rattle.lk_types.specs.declared.answer.Reply.{Reply}
 use Rattle.lk_ledger.specs.Saving.{after_saves}
 use Rattle.lk_ledger.specs.declared.kept.Kept.{Kept}

@@ -3,7 +3,7 @@ use Rattle.std.specs.Prelude.{◌≡◌, ◌⊎◌, ◌≤◌, ℕ, ℤ, Bool, f
 use Rattle.std.specs.Option.{option_map}
 use Rattle.lk_io.specs.Causes.{Rose}
 use Rattle.lk_io.specs.Moments.{later}
-use Rattle.lk_types.specs.Dates.{IsMomentInYears}
+use Rattle.lk_val.specs.Years.{IsMomentInYears}
 use Rattle.lk_types.specs.declared.answer.Reply.{Reply}
 use Rattle.lk_ledger.specs.Saving.{Save, after_saves, load}
 use Rattle.lk_ledger.specs.declared.kept.Kept.{Kept}

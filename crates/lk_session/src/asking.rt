@@ -1,6 +1,6 @@
 ghost use Rattle.std.specs.Prelude.{◌≡◌, ◌||◌, IfOk, OnErr, OnOk, length, nat_lt, true};
 ghost use Rattle.lk_val.specs.Memory.{UnlessMemory};
-ghost use Rattle.lk_types.specs.Dates.{IsMomentInYears};
+ghost use Rattle.lk_val.specs.Years.{IsMomentInYears};
 ghost use Rattle.lk_semantics.specs.Derived.{explore_at};
 ghost use Rattle.lk_ask.specs.Asks.{is_no_memory};
 ghost use Rattle.lk_reply.specs.Statuses.{answer_reply};

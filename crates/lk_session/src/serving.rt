@@ -1,5 +1,5 @@
 ghost use Rattle.std.specs.Prelude.{◌≤◌, IfOk, OnErr};
-ghost use Rattle.lk_types.specs.Dates.{IsMomentInYears};
+ghost use Rattle.lk_val.specs.Years.{IsMomentInYears};
 ghost use Rattle.lk_edition.specs.Checks.{check_planned};
 ghost use Rattle.lk_edition.specs.Loads.{load_planned};
 ghost use Rattle.lk_edition.specs.Offices.{standing_in};

@@ -5,7 +5,7 @@ use Rattle.std.proofs.lemmas.Bool.Decides.{nat_tests}
 use Rattle.std.proofs.lemmas.List.Sums.{count_by-le-length}
 use Rattle.jiff_core.proofs.SignedLemmas.{signed_arith, int_div_euclid-parts, int_rem_euclid-parts}
 use Rattle.lk_types.specs.Calendar.{from_year_one, from_1970, midnight, day_of_moment, second_of_moment, year_of, year_start, month_of, month_start}
-use Rattle.lk_types.specs.Dates.{IsDayInYears, IsMomentInYears}
+use Rattle.lk_val.specs.Years.{IsDayInYears, IsMomentInYears}
 use Rattle.lk_time.proofs.YearLaws.{year_of-range}
 use Rattle.lk_time.proofs.CivilLaws.{IsCivilDay, from_year_one-pos, first-IsCivilDay}
 

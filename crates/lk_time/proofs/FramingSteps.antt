@@ -6,7 +6,7 @@ use Rattle.lk_val.specs.declared.value.Value.TheVariants as value
 use Rattle.lk_types.specs.Calendar.{from_year_one, from_1970, midnight, day_of_moment, second_of_moment}
 use Rattle.lk_types.specs.declared.schema.Frame.{Frame}
 use Rattle.lk_types.specs.declared.schema.Frame.TheVariants.{Raw, Time, Date, HourOfDay, DayOfWeek}
-use Rattle.lk_types.specs.Dates.{IsDayInYears, IsMomentInYears}
+use Rattle.lk_val.specs.Years.{IsDayInYears, IsMomentInYears}
 use Rattle.lk_time.specs.FrameValues.{frame_value}
 use Rattle.lk_time.proofs.FrameLaws.{from_1970-from_year_one, moment-parts, day_of_moment-range}
 

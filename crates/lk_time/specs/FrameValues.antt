@@ -4,7 +4,7 @@ use Rattle.lk_val.specs.declared.value.Value.{Value}
 use Rattle.lk_val.specs.declared.value.Value.TheVariants.{Null, Text, Num, Day, Moment}
 use Rattle.lk_types.specs.declared.schema.Frame.{Frame}
 use Rattle.lk_types.specs.declared.schema.Frame.TheVariants.{Date, HourOfDay, DayOfWeek, DayOfMonth, MonthNum}
-use Rattle.lk_types.specs.Dates.{IsDayInYears, IsMomentInYears}
+use Rattle.lk_val.specs.Years.{IsDayInYears, IsMomentInYears}
 use Rattle.lk_types.specs.Timeframes.{timeframe_of}
 
 -- null, or a day or moment of the years 1 to 9999

@@ -8,7 +8,7 @@ ghost use Rattle.lk_types.specs.Calendar.{from_year_one, from_1970, year_of, yea
 ghost use Rattle.lk_types.specs.Timeframes.{timeframe_of, quarter_start};
 ghost use Rattle.lk_types.specs.declared.schema.Frame.TheVariants as frame;
 ghost use Rattle.lk_val.specs.declared.value.Value.TheVariants as value;
-ghost use Rattle.lk_types.specs.Dates.{IsDayInYears};
+ghost use Rattle.lk_val.specs.Years.{IsDayInYears};
 
 use jiff_core::civil::{Date, Weekday};
 

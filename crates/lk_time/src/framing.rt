@@ -1,7 +1,7 @@
 ghost use Rattle.std.specs.Prelude.{◌≡◌, ◌<◌, ◌/◌};
 ghost use Rattle.lk_types.specs.Calendar.{day_of_moment, second_of_moment};
 ghost use Rattle.lk_types.specs.Timeframes.{whole};
-ghost use Rattle.lk_types.specs.Dates.{IsDayInYears, IsMomentInYears};
+ghost use Rattle.lk_val.specs.Years.{IsDayInYears, IsMomentInYears};
 ghost use Rattle.lk_time.specs.FrameValues.{IsInYears, IsInRangeOf, frame_value};
 ghost use Rattle.lk_val.specs.declared.value.Value.TheVariants as value;
 

@@ -4,7 +4,7 @@ ghost use Rattle.lk_types.specs.Timeframes.{timeframe_of, weekday_name};
 ghost use Rattle.lk_types.specs.declared.schema.Frame.TheVariants as frame;
 ghost use Rattle.lk_val.specs.declared.value.Value.TheVariants as value;
 ghost use Rattle.lk_time.specs.FrameValues.{IsDay};
-ghost use Rattle.lk_types.specs.Dates.{IsDayInYears};
+ghost use Rattle.lk_val.specs.Years.{IsDayInYears};
 
 use crate::civil::weekday_of;
 use jiff_core::civil::Weekday;

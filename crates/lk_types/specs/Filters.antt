@@ -13,7 +13,7 @@ use Rattle.lk_types.specs.declared.expr.Comparison.{Comparison}
 use Rattle.lk_types.specs.declared.expr.Comparison.TheVariants as comparison
 use Rattle.lk_types.specs.declared.expr.Piece.{Piece}
 use Rattle.lk_types.specs.declared.expr.Piece.TheVariants as piece
-use Rattle.lk_types.specs.Dates.{is_day_in_years}
+use Rattle.lk_val.specs.Years.{is_day_in_years}
 use Rattle.lk_types.specs.declared.schema.Kind.{Kind}
 use Rattle.lk_types.specs.declared.schema.Kind.TheVariants as kind
 use Rattle.lk_types.specs.declared.filter.Filter.{Filter}

@@ -12,3 +12,4 @@ pub mod Faults
 pub mod Decimals
 pub mod Memory
 pub mod ValueRefs
+pub mod Years

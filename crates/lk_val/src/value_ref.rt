@@ -1,6 +1,6 @@
 ghost use Rattle.std.specs.Prelude.{◌≡◌, IfOk};
 ghost use Rattle.lk_val.specs.ValueRefs.{value_of_ref};
-ghost use Rattle.lk_val.specs.Values.{rank, value_cmp};
+ghost use Rattle.lk_val.specs.Values.{is_null, rank, value_cmp};
 
 use crate::memory::NoMemory;
 use crate::num::Num;
@@ -49,6 +49,16 @@ impl ValueRef<'_> {
             ValueRef::Day(day) => Value::Day(day),
             ValueRef::Moment(moment) => Value::Moment(moment),
         })
+    }
+
+    /// Whether it is null.
+    pub fn is_null(self) -> bool
+        ensures { result ≡ is_null (value_of_ref self.entry) }
+    {
+        match self {
+            ValueRef::Null => true,
+            _ => false,
+        }
     }
 
     /// The order of the two values: null first, then by kind, then within the kind.

@@ -1,7 +1,8 @@
 use Rattle.std.proofs.lemmas.Result.{IfOk-weaker}
 use Rattle.lk_grammar.specs.Forms.{IsText}
 use Rattle.lk_grammar.specs.Places.{Judges}
-use Rattle.lk_filter_number.specs.Truths.{IsTruth, truth_form}
+use Rattle.lk_filter_number.specs.Truths.{IsTruth}
+use Rattle.lk_filter_number.specs.TruthReading.{truth_form}
 use Rattle.lk_filter_number.proofs.TruthLaws.{truths_judged}
 use Rattle.lk_filter_number.proofs.truth.judge_truths.Goals as goal
 

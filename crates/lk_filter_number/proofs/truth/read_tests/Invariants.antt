@@ -1,6 +1,6 @@
 use Rattle.std.proofs.Common.{◌≡◌, ◌++◌, length, map, option_map}
 use Rattle.lk_types.specs.declared.filter.Test.TheVariants.{Truth}
-use Rattle.lk_filter_number.specs.Truths.{truths_of}
+use Rattle.lk_filter_number.specs.TruthReading.{truths_of}
 use Rattle.lk_filter_number.proofs.truth.read_tests.Given as goal
 
 -- the tests so far, and those of the words that are left, are those of all words

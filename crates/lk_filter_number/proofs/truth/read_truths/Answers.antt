@@ -1,7 +1,8 @@
 use Rattle.std.proofs.Common.{◌≡◌, Some, IfSome, option_map}
 use Rattle.std.proofs.lemmas.Result.{IfOk-weaker}
 use Rattle.lk_types.specs.declared.filter.Filter.{Filter}
-use Rattle.lk_filter_number.specs.Truths.{IsTruthFilter, truth_filter, truths_of}
+use Rattle.lk_filter_number.specs.Truths.{IsTruthFilter, truth_filter}
+use Rattle.lk_filter_number.specs.TruthReading.{truths_of}
 use Rattle.lk_filter_number.proofs.TruthLaws.{truths_are_spelled, truths_are_read, no_truths}
 use Rattle.lk_filter_number.proofs.truth.read_truths.Goals as goal
 

@@ -9,7 +9,7 @@ pub loop-record-preserved : goal.loop-record-preserved
 loop-record-preserved c =
     let named = map (λ (column : Bor ColumnDef). column.now) c.args.named.now in
     let sources = c.args.sources.now in
-    let fields = fields_of c.take_record.new.csv_record in
+    let fields = fields_of c.take_record.new.row in
     let left = records_left c.take_record.new.reader in
     let took = c.in_ok-take_record.ensures in
     let all = took.value ∙ ap (λ found. before found fields left) c.if-branch.true in
