@@ -1,9 +1,10 @@
 #!/bin/sh
 # Times tables: the reading of a batch of 400,000 rows in three columns (16 MB), an append of 1,000 rows to 1,000,000,
 # a look at each of 1,000,000 numbers beside plain Rust over a `Vec<Option<i64>>`, and batches that are made to be
-# costly. Then it fills tables of 4,000,000 numbers and of 4,000,000 texts, 1,000 of them different, by 16 loads; what a table
-# takes is the most memory of that process less that of one which reads a batch and keeps none. With each line stands the
-# most memory that its process took. A measurement, not a test: it builds a program in a folder of its own, which proves it
+# costly; one of them, 8,000,000 records of one byte over 64 columns, is loaded until its cells are found to be over the
+# limit. Then it fills tables of 4,000,000 numbers and of 4,000,000 texts, 1,000 of them different, by 16 loads; what a
+# table takes is the most memory of that process less that of one which reads a batch and keeps none. With each line stands
+# the most memory that its process took. A measurement, not a test: it builds a program in a folder of its own, which proves it
 # first, unless PROGRAM names one that was built of the source below.
 crates='lk_val lk_postfix lk_types lk_time lk_cell lk_csv lk_region lk_table'
 uses='lk_val lk_types lk_table'
@@ -136,6 +137,48 @@ fn filled(alloc: Global, kind: Kind, loads: u32) -> Result<u64, BatchFault> {
     Ok(size(&table).cells)
 }
 
+// A table of 64 columns, of all kinds in turn, that has no key.
+fn wide(alloc: Global) -> Result<TableDef, NoMemory> {
+    let kinds = [
+        Kind::Text,
+        Kind::Number,
+        Kind::Truth,
+        Kind::Day,
+        Kind::Moment,
+    ];
+    let mut columns = Items::new(alloc);
+    for i in 0..64usize {
+        let name = format!(in alloc; "column_{i}")?;
+        columns.push(column(alloc, name.as_str(), kinds[i % 5])?)?;
+    }
+    Ok(TableDef {
+        name: Text::from_str(alloc, "wide")?,
+        columns,
+        key: None,
+    })
+}
+
+// The cells of a table after the text is loaded.
+fn widened(alloc: Global, def: &TableDef, text: &Bytes) -> Result<u64, BatchFault> {
+    let table = load(alloc, def, &TableVersion::empty(alloc, def)?, text)?;
+    Ok(size(&table).cells)
+}
+
+fn refuse(rt: &HostRuntime) -> io::Result<()> {
+    let alloc = rt.alloc();
+    let (Ok(def), Ok(text)) = (
+        wide(alloc),
+        repeated(alloc, b"column_0\n", b"x\n", 8_000_000),
+    ) else {
+        return Ok(());
+    };
+    let begun = Instant::now(rt)?;
+    let cells = widened(alloc, &def, &text).unwrap_or(0);
+    let took = begun.elapsed(rt)?.as_millis();
+    let is_over = cells > 4_000_000;
+    println!(rt; "wide: {cells} cells in {took} ms, over the limit: {is_over}")
+}
+
 fn total(table: &TableVersion) -> i64 {
     let all = rows(table);
     let mut sum = 0i64;
@@ -203,6 +246,9 @@ fn run(rt: &HostRuntime, what: &str) -> io::Result<()> {
     if what == "append" {
         return append(rt);
     }
+    if what == "wide" {
+        return refuse(rt);
+    }
     match what.split_once(" ") {
         Some((kind, loads)) => fill(rt, kind, loads),
         None => read(rt, what),
@@ -246,7 +292,7 @@ if [ -z "$PROGRAM" ]; then
     PROGRAM=$work/crates/timing/out/timing
     [ -x "$PROGRAM" ] || { tail -n 40 "$work/build.log"; exit 1; }
 fi
-for what in batch append records record quote lines names 'numbers 0' 'numbers 16' 'texts 0' 'texts 16'; do
+for what in batch append records record quote lines names wide 'numbers 0' 'numbers 16' 'texts 0' 'texts 16'; do
     echo "$what" | /usr/bin/time -f '  at most %M KB of memory' "$PROGRAM"
 done
 /usr/bin/time -f '  at most %M KB of memory' "$work/plain"

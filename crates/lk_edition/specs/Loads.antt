@@ -9,8 +9,7 @@ use Rattle.lk_schema.specs.declared.users.Users.{Users}
 use Rattle.lk_table.specs.Contents.{Content}
 use Rattle.lk_table.specs.declared.fault.BatchFault.{BatchFault}
 use Rattle.lk_table.specs.declared.fault.BatchFault.TheVariants as batch
-use Rattle.lk_load.specs.Loading.{table_loaded}
-use Rattle.lk_load.specs.declared.load.LoadedTable.{LoadedTable}
+use Rattle.lk_load.specs.Loading.{LoadedTable, table_loaded}
 use Rattle.lk_ledger.specs.declared.command.Command.{Command}
 use Rattle.lk_ledger.specs.declared.kept.KeptId.{KeptId}
 use Rattle.lk_edition.specs.Limits.{is_over}

@@ -7,8 +7,7 @@ use Rattle.lk_table.specs.Batches.{and_then}
 use Rattle.lk_table.specs.Contents.{Content, content_of}
 use Rattle.lk_table.specs.declared.fault.BatchFault.{BatchFault}
 use Rattle.lk_table.specs.declared.fault.BatchFault.TheVariants as batch
-use Rattle.lk_load.specs.Loading.{table_loaded}
-use Rattle.lk_load.specs.declared.load.LoadedTable.{LoadedTable}
+use Rattle.lk_load.specs.Loading.{LoadedTable, table_loaded}
 use Rattle.lk_ledger.specs.declared.kept.Chunk.{Chunk}
 use Rattle.lk_ledger.specs.declared.kept.Kept.{Kept}
 use Rattle.lk_edition.specs.Limits.{is_over}

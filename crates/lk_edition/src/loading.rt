@@ -12,7 +12,7 @@ use crate::plan::{LoadPlan, Pending};
 use crate::replies::load_reply;
 use crate::tables::{compacted, load_into, set_table, share_tables, table_named};
 use lk_ledger::{Command, KeptId};
-use lk_load::LoadedTable;
+use lk_load::LoadedBatch;
 use lk_schema::{Users, attribute_of};
 use lk_table::TableVersion;
 use lk_val::{Items, NoMemory, Text};
@@ -93,37 +93,55 @@ fn plan_loaded(
     edition: &Edition,
     call: &LoadCall,
     number: usize,
-    loaded: LoadedTable,
+    loaded: LoadedBatch<'_>,
 ) -> Result<LoadPlan, LoadFault>
     requires within { number < length edition.now.model.schema.tables }
     requires table { IsTable (def_at edition.now.model.schema.tables number) loaded.version }
-    ensures { IsUnlessMemory is_no_memory result (unless_over (planned edition.now call.now number loaded)) }
+    ensures { IsUnlessMemory is_no_memory result (unless_over (planned edition.now call.now number loaded.entry)) }
 {
-    let LoadedTable {
-        version,
-        rows,
-        text,
-    } = loaded;
-    let rows = u64::from(rows);
+    let rows = u64::from(loaded.rows());
     let next = edition.next_number();
-    let tables = tables_with(alloc, edition, number, compacted(alloc, version)?)?;
+    let tables = tables_with(alloc, edition, number, loaded.version().share(alloc)?)?;
     let loads = edition.loads_with(alloc, kept_id(alloc, call, next, rows)?)?;
+    // A small body may come to very many cells: the limits are asked before its text is written or any row is copied.
     if is_over(next, tables.as_slice(), loads.len()) {
         return Err(LoadFault::L6);
     }
+    let command = command_of(alloc, call, next, &loaded)?;
+    let version = compacted(alloc, loaded.into_version())?;
+    let tables = tables_with(alloc, edition, number, version)?;
     let next_edition = edition.next(alloc, next, tables, loads)?;
     Ok(LoadPlan::New(Pending {
         edition: Arc::new(alloc, next_edition)?,
-        command: Command {
-            number: next,
-            id: call.id.copy(alloc)?,
-            table: call.table.copy(alloc)?,
-            replace: call.replace,
-            rows,
-            body: text,
-        },
+        command,
         reply: load_reply(alloc, rows, next)?,
     }))
+}
+
+// What the store is told of a load that makes the state of this number.
+fn command_of(
+    alloc: Global,
+    call: &LoadCall,
+    number: u64,
+    loaded: &LoadedBatch<'_>,
+) -> Result<Command, NoMemory>
+    ensures { IfOk result (λ command. command ≡ record {
+      number = number;
+      id = call.now.id;
+      table = call.now.table;
+      replace = call.now.replace;
+      rows = loaded.now.rows;
+      body = loaded.now.text;
+    }) }
+{
+    Ok(Command {
+        number,
+        id: call.id.copy(alloc)?,
+        table: call.table.copy(alloc)?,
+        replace: call.replace,
+        rows: u64::from(loaded.rows()),
+        body: loaded.text(alloc)?,
+    })
 }
 
 // The tables of an edition with another version of one of them.

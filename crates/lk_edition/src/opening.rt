@@ -163,7 +163,7 @@ fn append_at(
         false,
     ) {
         Ok(loaded) => {
-            let version = compacted(alloc, loaded.version)?;
+            let version = compacted(alloc, loaded.into_version())?;
             Ok(set_table(defs, tables, number, version))
         }
         Err(BatchFault::NoMemory) => Err(OpenFault::NoMemory),
@@ -212,7 +212,7 @@ fn put_seed(
         body.as_slice(),
         true,
     ) {
-        Ok(loaded) => Ok(set_table(defs, tables, number, loaded.version)),
+        Ok(loaded) => Ok(set_table(defs, tables, number, loaded.into_version())),
         Err(BatchFault::NoMemory) => Err(OpenFault::NoMemory),
         Err(fault) => Err(OpenFault::Seed(defs[number].name.copy(alloc)?, fault)),
     }

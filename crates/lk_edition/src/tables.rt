@@ -7,7 +7,7 @@ ghost use Rattle.lk_load.specs.Loading.{IsTable, table_loaded};
 ghost use Rattle.lk_edition.specs.Loads.{content_at, def_at, table_named};
 ghost use Rattle.lk_edition.specs.States.{AreTables};
 
-use lk_load::{LoadedTable, load_text, loads_keep_tables_valid};
+use lk_load::{LoadedBatch, load_text, loads_keep_tables_valid};
 use lk_table::{BatchFault, TableVersion, compact};
 use lk_types::TableDef;
 use lk_val::{Items, NoMemory, Text};
@@ -25,11 +25,11 @@ pub(crate) fn table_named(defs: &[TableDef], name: &Text) -> Option<usize>
 }
 
 /// The declaration of the table of a number, and what it holds.
-pub(crate) fn table_in<'a>(
+pub(crate) fn table_in<'a, 'b>(
     defs: &'a [TableDef],
-    tables: &'a [TableVersion],
+    tables: &'b [TableVersion],
     number: usize,
-) -> (&'a TableDef, &'a TableVersion)
+) -> (&'a TableDef, &'b TableVersion)
     requires are { AreTables defs.now tables.now }
     requires within { number < length defs.now }
     ensures def { result.0.now ≡ def_at defs.now number }
@@ -40,14 +40,14 @@ pub(crate) fn table_in<'a>(
 }
 
 /// The table of a number after a text is loaded into it.
-pub(crate) fn load_into(
+pub(crate) fn load_into<'a>(
     alloc: Global,
-    defs: &[TableDef],
+    defs: &'a [TableDef],
     tables: &[TableVersion],
     number: usize,
     text: &[u8],
     replace: bool,
-) -> Result<LoadedTable, BatchFault>
+) -> Result<LoadedBatch<'a>, BatchFault>
     requires are { AreTables defs.now tables.now }
     requires within { number < length defs.now }
     ensures value { IsUnlessMemory is_no_memory result

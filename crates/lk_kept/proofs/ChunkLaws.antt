@@ -10,8 +10,7 @@ use Rattle.lk_types.specs.declared.schema.TableDef.{TableDef}
 use Rattle.lk_table.specs.Batches.{and_then}
 use Rattle.lk_table.specs.Contents.{Content, content_of}
 use Rattle.lk_table.specs.declared.fault.BatchFault.{BatchFault}
-use Rattle.lk_load.specs.Loading.{table_loaded}
-use Rattle.lk_load.specs.declared.load.LoadedTable.{LoadedTable}
+use Rattle.lk_load.specs.Loading.{LoadedTable, table_loaded}
 use Rattle.lk_ledger.specs.Saving.{other_chunks}
 use Rattle.lk_ledger.specs.declared.kept.Chunk.{Chunk}
 use Rattle.lk_edition.specs.Loads.{content_at, def_at, no_table, nothing_held, table_named}

@@ -10,8 +10,7 @@ use Rattle.lk_table.specs.Batches.{and_then, batch_of}
 use Rattle.lk_table.specs.BatchTexts.{HasNamedColumns, batch_text}
 use Rattle.lk_table.specs.Contents.{Content, content_of}
 use Rattle.lk_table.specs.Loads.{kept_rows}
-use Rattle.lk_load.specs.Loading.{table_loaded}
-use Rattle.lk_load.specs.declared.load.LoadedTable.{LoadedTable}
+use Rattle.lk_load.specs.Loading.{LoadedTable, table_loaded}
 use Rattle.lk_ledger.specs.Saving.{after_load, after_saves, load, other_chunks}
 use Rattle.lk_ledger.specs.declared.command.Command.{Command}
 use Rattle.lk_ledger.specs.declared.kept.Chunk.{Chunk}

@@ -9,8 +9,7 @@ use Rattle.lk_table.specs.BatchTexts.{HasNamedColumns, batch_text}
 use Rattle.lk_table.specs.Contents.{Content, content_of, keys_of}
 use Rattle.lk_table.specs.Loads.{first_conflict, kept_rows, loaded, unless_conflict}
 use Rattle.lk_table.specs.declared.fault.BatchFault.{BatchFault}
-use Rattle.lk_load.specs.Loading.{table_loaded, with_batch}
-use Rattle.lk_load.specs.declared.load.LoadedTable.{LoadedTable}
+use Rattle.lk_load.specs.Loading.{LoadedTable, table_loaded, with_batch}
 
 conflict_same : (def : TableDef) (before others rows : Rows) (o : Option Value)
     → unless_conflict o (content_of def before) rows ≡ unless_conflict o (content_of def others) rows

@@ -12,8 +12,7 @@ use Rattle.lk_table.specs.Batches.{Fields, and_then, batch_from, batch_of, conte
 use Rattle.lk_table.specs.Contents.{Content, content_of, keys_of, lacks_key}
 use Rattle.lk_table.specs.Loads.{first_conflict, loaded, unless_conflict}
 use Rattle.lk_table.specs.declared.fault.BatchFault.{BatchFault}
-use Rattle.lk_load.specs.Loading.{IsTable, table_loaded, with_batch}
-use Rattle.lk_load.specs.declared.load.LoadedTable.{LoadedTable}
+use Rattle.lk_load.specs.Loading.{IsTable, LoadedTable, table_loaded, with_batch}
 use Rattle.lk_load.proofs.KeyLaws.{rows_keyed}
 use Rattle.lk_load.proofs.RowLaws.{rows_behind-fit}
 

@@ -7,7 +7,12 @@ use Rattle.lk_table.specs.BatchTexts.{batch_text}
 use Rattle.lk_table.specs.Contents.{Content, content_of}
 use Rattle.lk_table.specs.Loads.{loaded}
 use Rattle.lk_table.specs.declared.fault.BatchFault.{BatchFault}
-use Rattle.lk_load.specs.declared.load.LoadedTable.{LoadedTable}
+
+-- a table after a batch is loaded, how many rows the batch has, and its canonical text
+pub record LoadedTable : Type 0 where
+  pub version : Content
+  pub rows : ℕ
+  pub text : List ℕ
 
 -- the table after a batch, and with it the number of the batch's rows and its canonical text
 abbrev pub with_batch : TableDef → Content → Result Content BatchFault → Result LoadedTable BatchFault

@@ -5,4 +5,4 @@ mod laws;
 mod load;
 
 pub use laws::loads_keep_tables_valid;
-pub use load::{LoadedTable, load_text};
+pub use load::{LoadedBatch, load_text};

@@ -5,7 +5,7 @@ use Rattle.lk_io.specs.Causes.{Rose}
 use Rattle.lk_types.specs.declared.answer.Reply.{Reply}
 use Rattle.lk_semantics.specs.Derived.{explore_at}
 use Rattle.lk_table.specs.declared.fault.BatchFault.{BatchFault}
-use Rattle.lk_load.specs.declared.load.LoadedTable.{LoadedTable}
+use Rattle.lk_load.specs.Loading.{LoadedTable}
 use Rattle.lk_ledger.specs.declared.kept.KeptId.{KeptId}
 use Rattle.lk_ask.specs.declared.fault.AskFault.{AskFault}
 use Rattle.lk_ask.specs.declared.fault.AskFault.TheVariants as ask

@@ -1,3 +1,4 @@
+pub mod NullLaws
 pub mod CountLaws
 pub mod ColumnLaws
 pub mod RowLaws

@@ -1,6 +1,7 @@
 pub mod Contents
 pub mod Batches
 pub mod Loads
+pub mod Nulls
 pub mod Counts
 pub mod Columns
 pub mod Faults

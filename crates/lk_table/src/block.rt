@@ -7,9 +7,10 @@ ghost use Rattle.lk_table.specs.Columns.{AreText, IsMarked, are_of_kinds, kind_i
 use crate::cells::{cell_in, push_cell};
 use crate::column::Column;
 use crate::counts::Counts;
+use crate::nullable::Nullable;
 use lk_region::Region;
 use lk_types::Kind;
-use lk_val::{Items, NoMemory, ValueRef};
+use lk_val::{NoMemory, ValueRef};
 use std::alloc::Global;
 use std::marker::Model;
 
@@ -160,10 +161,10 @@ fn new_column(alloc: Global, kind: Kind) -> Column
     ensures marked { IsMarked 0 result }
 {
     match kind {
-        Kind::Text => Column::Text(Items::new(alloc)),
+        Kind::Text => Column::Text(Nullable::new(alloc)),
         Kind::Number => Column::Number(Counts::new(alloc)),
-        Kind::Truth => Column::Truth(Items::new(alloc)),
-        Kind::Day => Column::Day(Items::new(alloc)),
+        Kind::Truth => Column::Truth(Nullable::new(alloc)),
+        Kind::Day => Column::Day(Nullable::new(alloc)),
         Kind::Moment => Column::Moment(Counts::new(alloc)),
     }
 }

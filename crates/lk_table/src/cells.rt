@@ -99,10 +99,10 @@ pub(crate) fn cell_in<'a>(region: &'a Region, column: &'a Column, row: usize) ->
     ensures { value_of_ref result ≡ cell_at (values_in region.now column.now) row }
 {
     match column {
-        Column::Text(cells) => text_ref(region, cells.as_slice()[row]),
+        Column::Text(cells) => text_ref(region, cells.get(row)),
         Column::Number(counts) => number_ref(counts.get(row)),
-        Column::Truth(cells) => truth_ref(cells.as_slice()[row]),
-        Column::Day(cells) => day_ref(cells.as_slice()[row]),
+        Column::Truth(cells) => truth_ref(cells.get(row)),
+        Column::Day(cells) => day_ref(cells.get(row)),
         Column::Moment(counts) => moment_ref(counts.get(row)),
     }
 }

@@ -1,29 +1,31 @@
 ghost use Rattle.std.specs.Prelude.{◌≡◌};
 
 use crate::counts::Counts;
+use crate::nullable::Nullable;
 use lk_region::Mark;
-use lk_val::Items;
 
 /// The cells of one column, in the order of the rows; `None` is null. A number is its count of 1/10,000, a day a number of
 /// days and a moment a number of seconds, both from 1970-01-01 00:00:00 UTC. The marks are of the region beside the column.
 #[derive(Drop)]
 pub enum Column {
-    Text(Items<Option<Mark>>),
+    Text(Nullable<Mark>),
     Number(Counts),
-    Truth(Items<Option<bool>>),
-    Day(Items<Option<i32>>),
+    Truth(Nullable<bool>),
+    Day(Nullable<i32>),
     Moment(Counts),
 }
 
 impl Column {
-    /// Gives back the memory that no count takes.
+    /// Gives back the memory that no cell takes.
     pub(crate) fn shrink(&mut self)
         ensures { self.new ≡ self.old }
     {
         match self {
+            Column::Text(cells) => cells.shrink(),
             Column::Number(counts) => counts.shrink(),
+            Column::Truth(cells) => cells.shrink(),
+            Column::Day(cells) => cells.shrink(),
             Column::Moment(counts) => counts.shrink(),
-            _ => {}
         }
     }
 }

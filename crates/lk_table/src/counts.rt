@@ -4,10 +4,12 @@ use lk_val::NoMemory;
 use std::alloc::Global;
 use std::marker::Model;
 
-/// The counts of a column, `None` where a cell is null. Each takes 9 bytes, where an `Option<i64>` takes 16. Clauses see
-/// the list.
+/// The counts of a column, `None` where a cell is null. Each takes 9 bytes, where an `Option<i64>` takes 16; but the nulls
+/// in front of the first known count are counted only, and take no memory. Clauses see the list.
 #[derive(Drop)]
 pub struct Counts {
+    // The number of nulls in front of the counts that are held.
+    nulls: usize,
     // 0 where a cell is null.
     counts: Vec<i64>,
     present: Vec<bool>,
@@ -16,10 +18,12 @@ pub struct Counts {
 impl Model for Counts {
     ghost use Rattle.std.specs.Prelude.{◌≡◌, length, List, Option, ℤ};
     ghost use Rattle.lk_table.specs.Counts.{counts_in};
+    ghost use Rattle.lk_table.specs.Nulls.{behind_nulls};
 
     ghost Value = { List (Option ℤ) };
 
-    ghost view = { λ column. counts_in column.present.items column.counts.items };
+    ghost view = { λ column.
+        behind_nulls column.nulls (counts_in column.present.items column.counts.items) };
 
     ghost invariant = { λ column. length column.present.items ≡ length column.counts.items };
 }
@@ -30,6 +34,7 @@ impl Counts {
         ensures { result ≡ [] }
     {
         Counts {
+            nulls: 0,
             counts: Vec::new(alloc),
             present: Vec::new(alloc),
         }
@@ -40,7 +45,11 @@ impl Counts {
         requires { row < length self.now }
         ensures { result ≡ slice_index_or self.now row None }
     {
-        option_of(self.present[row], self.counts[row])
+        if row < self.nulls {
+            return None;
+        }
+        let held = row - self.nulls;
+        option_of(self.present[held], self.counts[held])
     }
 
     /// Adds a count at the end; after an error the counts are as before.
@@ -48,6 +57,13 @@ impl Counts {
         ensures ok { OnOk result (self.new ≡ self.old ++ count ∷ []) }
         ensures err { OnErr result (self.new ≡ self.old) }
     {
+        if count.is_none() && self.counts.is_empty() {
+            let Some(nulls) = self.nulls.checked_add(1) else {
+                return Err(NoMemory);
+            };
+            self.nulls = nulls;
+            return Ok(());
+        }
         match self.counts.push(count.unwrap_or(0)) {
             Ok(()) => {}
             Err(_) => return Err(NoMemory),

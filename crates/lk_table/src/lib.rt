@@ -13,6 +13,7 @@ mod header;
 mod keys;
 mod laws;
 mod load;
+mod nullable;
 mod parse;
 mod part;
 mod records;

@@ -7,7 +7,7 @@ returns-in-Ok-push-clause-ok c =
     let kept = c.self.inside in
     let count = c.unwrap_or.result in
     let same : to_z w64 (of_z w64 count) ≡ count = search rules in
-    count_pushed kept.present.items c.push-2.new.self.items kept.counts.items c.push.new.self.items c.args.count c.args.self.now
+    count_pushed kept.nulls kept.present.items c.push-2.new.self.items kept.counts.items c.push.new.self.items c.args.count c.args.self.now
     c.self.view_is c.self.invariant
     (c.in-Ok.ensures.items ∙ ap (λ (n : ℤ). kept.counts.items ++ n ∷ []) (same ∙ c.unwrap_or.ensures))
     (c.in-Ok-push.ensures.items ∙ ap (λ p. kept.present.items ++ p ∷ []) c.is_some.ensures)
