@@ -2,6 +2,7 @@
 use Rattle.std.specs.Prelude.{◌≡◌, ◌==◌, ◌&&◌, ℕ, Bool, true, false, not, nat_le, List, [], ◌∷◌, codes}
 use Rattle.std.specs.List.{list_any}
 use Rattle.lk_val.specs.Texts.{is_same_text}
+use Rattle.lk_io.specs.Memory.{no_calls}
 use Rattle.lk_keep.specs.declared.held.Held.{Held}
 use Rattle.lk_keep.specs.declared.held.Held.TheVariants as held
 use Rattle.lk_ledger.specs.declared.kept.Kept.{Kept}
@@ -27,7 +28,7 @@ empty_kept = record { number = 0; chunks = []; ids = [] }
 abbrev pub IsEmpty : Kept → Type 0
 IsEmpty kept = kept ≡ empty_kept
 
--- a file exactly for words that ask for a server, and else an empty store in memory
+-- a file exactly for words that ask for a server, and else an empty store in memory, none of whose calls fail
 abbrev pub IsKeeperFor : List (List ℕ) → Held → Type 0
 IsKeeperFor words (held.File keeper) = asks_for_a_server words ≡ true
-IsKeeperFor words (held.Memory keeper) = (asks_for_a_server words ≡ false) × (keeper.kept ≡ empty_kept)
+IsKeeperFor words (held.Memory keeper) = (asks_for_a_server words ≡ false) × (keeper.kept ≡ empty_kept) × (keeper.calls ≡ no_calls [])

@@ -9,7 +9,8 @@ use lk_val::{Items, NoMemory, Text};
 use std::alloc::Global;
 
 /// The store of a run with these words: the file `store.db` in the folder where they are `serve DIR ADDRESS WORKERS`, with 1 to
-/// 16 workers and no word that begins with `-`; and for all other words an empty store in memory. (lookd)
+/// 16 workers and no word that begins with `-`; and for all other words an empty store in memory, none of whose calls fail.
+/// (lookd)
 pub fn keeper_for(rt: &HostRuntime, words: &[Text]) -> Result<Held, NoMemory>
     ensures { IfOk result (IsKeeperFor words.now) }
 {
@@ -20,7 +21,7 @@ pub fn keeper_for(rt: &HostRuntime, words: &[Text]) -> Result<Held, NoMemory>
             let path = Text::from_string(format!(in alloc; "{folder}/store.db")?);
             Ok(Held::File(SqlKeeper::at(rt.clone()?, path)))
         }
-        _ => Ok(Held::Memory(MemKeeper::new(empty_kept(alloc), Items::new(alloc)))),
+        _ => Ok(Held::Memory(empty_keeper(alloc))),
     }
 }
 

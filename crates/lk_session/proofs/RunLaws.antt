@@ -1,16 +1,18 @@
 -- From turn to turn of a session, and to its end.
-use Rattle.std.proofs.Common.{◌≡◌, ◌∙◌, ◌++◌, ◌≢◌, ◌+◌, ◌<◌, ℕ, true, false, List, [], ◌∷◌, length, take, drop, drop_of_length-le, refl, sym, ap, subst, arith, inl, inr, Option, Some, None}
-use Rattle.std.specs.Prelude.{◌⊎◌, ◌||◌, IfSome, IsSome}
+use Rattle.std.proofs.Common.{◌≡◌, ◌∙◌, ◌++◌, ◌≢◌, ◌+◌, ◌<◌, ℕ, true, false, List, [], ◌∷◌, length, refl, sym, ap, subst, arith, inl, inr, Option, Some, None}
+use Rattle.std.specs.Prelude.{◌⊎◌, ◌||◌, IfSome, IsSome, Ok, Err}
 use Rattle.std.specs.Io.KnownBytes.{Appends}
 use Rattle.std.proofs.KnownBytes.{Appends-nil, Appends-trans}
-use Rattle.std.proofs.Math.Seq.{take-add, take-length}
+use Rattle.std.proofs.Math.Seq.{take-length}
 use Rattle.std.proofs.lemmas.Bool.{false≢true}
 use Rattle.std.proofs.lemmas.Grind.{flat_map-append}
-use Rattle.std.proofs.lemmas.List.{append-nil, drop-append-le, length-append, take-append-le}
+use Rattle.std.proofs.lemmas.List.{append-nil, length-append}
 use Rattle.lk_io.specs.Streams.{AppendsFront}
-use Rattle.lk_http.specs.Items.{ends}
+use Rattle.lk_http.specs.Items.{Item, ends}
 use Rattle.lk_http.specs.Replies.{printed_reply}
-use Rattle.lk_session.specs.Runs.{AreTurns, Closed, Closes, GoesOut, IsOver, IsSession, IsUnread, ended_by, is_last, printed}
+use Rattle.lk_http.specs.declared.faults.HttpFault.TheVariants as http
+use Rattle.lk_http.specs.declared.request.Got.TheVariants.{End, Req}
+use Rattle.lk_session.specs.Runs.{AreTurns, Closed, Closes, EndsAt, GoesOut, IsOver, IsSession, IsUnread, ended_by, is_last, printed}
 use Rattle.lk_session.specs.Servers.{IsTurn, Sent, Server}
 use Rattle.lk_session.specs.Steps.{Answers, IsSent, IsStep, Reached, Stops, sent_of}
 use Rattle.lk_session.specs.declared.ended.Ended.{Ended}
@@ -37,30 +39,45 @@ printed_more sents sent = flat_map-append (λ (s : Sent). printed_reply s.reply 
 out_more : (a b c : Option (List ℕ)) (sents : List Sent) (sent : Sent) → Appends a b (printed sents) → Appends b c (printed_reply sent.reply sent.close) → Appends a c (printed (sents ++ sent ∷ []))
 out_more a b c sents sent p q = subst (Appends a c) (sym (printed_more sents sent)) (Appends-trans a b c _ _ p q)
 
-take_behind : (xs ys : List ℕ) (n : ℕ) → take (length xs + n) (xs ++ ys) ≡ xs ++ take n ys
-take_behind xs ys n =
-    let first : take (length xs) (xs ++ ys) ≡ xs = take-append-le (length xs) xs ys (omega arith) ∙ take-length xs in
-    let rest : drop (length xs) (xs ++ ys) ≡ ys = drop-append-le (length xs) xs ys (omega arith) ∙ ap (λ zs. zs ++ ys) (drop_of_length-le xs {i = length xs} (omega arith)) in
-    take-add (length xs) n (xs ++ ys) ∙ (λ i. first i ++ take n (rest i))
-
-front_more : (a b c : Option (List ℕ)) (sents : List Sent) (sent : Sent) → Appends a b (printed sents) → AppendsFront b c (printed_reply sent.reply sent.close) → AppendsFront a c (printed (sents ++ sent ∷ []))
-front_more a b c sents sent p (n, q) =
-    let reply = printed_reply sent.reply sent.close in
-    let count = length (printed sents) + n in
-    (count, subst (Appends a c) (sym (ap (take count) (printed_more sents sent) ∙ take_behind (printed sents) reply n)) (Appends-trans a b c (printed sents) (take n reply) p q))
-
 all_front : (a b : Option (List ℕ)) (bytes : List ℕ) → Appends a b bytes → AppendsFront a b bytes
 all_front a b bytes p = (length bytes, subst (Appends a b) (sym (take-length bytes)) p)
 
--- however a session ended, all that was to go out may have
-goes_out : (how : Ended) (a b : Option (List ℕ)) (bytes : List ℕ) → Appends a b bytes → GoesOut how a b bytes
-goes_out ended.Clean a b bytes p = p
-goes_out ended.Truncated a b bytes p = p
-goes_out ended.BadHead a b bytes p = p
-goes_out ended.Spent a b bytes p = p
-goes_out ended.ReadFault a b bytes p = p
-goes_out ended.WriteFault a b bytes p = all_front a b bytes p
-goes_out ended.NoMemory a b bytes p = p
+-- however a session ended, one reply more may have gone out whole
+sent_out : (how : Ended) (a b c : Option (List ℕ)) (sents : List Sent) (sent : Sent) → Appends a b (printed sents) → Appends b c (printed_reply sent.reply sent.close)
+    → GoesOut how a c (sents ++ sent ∷ [])
+sent_out ended.Clean a b c sents sent p q = out_more a b c sents sent p q
+sent_out ended.Truncated a b c sents sent p q = out_more a b c sents sent p q
+sent_out ended.BadHead a b c sents sent p q = out_more a b c sents sent p q
+sent_out ended.Spent a b c sents sent p q = out_more a b c sents sent p q
+sent_out ended.ReadFault a b c sents sent p q = out_more a b c sents sent p q
+sent_out ended.NoMemory a b c sents sent p q = out_more a b c sents sent p q
+sent_out ended.WriteFault a b c sents sent p q =
+    record { front = sents; sent = sent; all = refl; between = b; whole = p; cut = all_front b c _ q }
+
+-- a session that ended without a last reply ended without a fault of writing
+no_write : (item : Item) → EndsAt item ended.WriteFault → ⊥
+no_write (Ok End) at = cc at
+no_write (Ok (Req request)) at = at
+no_write (Err http.H1) at = at
+no_write (Err http.H2) at = at
+no_write (Err (http.H3 count)) at = at
+no_write (Err (http.H4 asked)) at = at
+no_write (Err (http.H5 asked)) at = at
+no_write (Err http.H6) at = at
+no_write (Err http.Truncated) at = cc at
+no_write (Err http.ReadFault) at = at
+no_write (Err http.NoMemory) at = at
+
+stopped_out : (left rest : List ℕ) (how : Ended) (a b : Option (List ℕ)) (sents : List Sent) → IsOver left rest how ⊎ IsUnread left rest how → Appends a b (printed sents)
+    → GoesOut how a b sents
+stopped_out left rest ended.Clean a b sents stop p = p
+stopped_out left rest ended.Truncated a b sents stop p = p
+stopped_out left rest ended.BadHead a b sents stop p = p
+stopped_out left rest ended.Spent a b sents stop p = p
+stopped_out left rest ended.ReadFault a b sents stop p = p
+stopped_out left rest ended.NoMemory a b sents stop p = p
+stopped_out left rest ended.WriteFault a b sents (inl over) p = absurd (no_write over.item over.at)
+stopped_out left rest ended.WriteFault a b sents (inr unread) p = absurd (cc unread.fault)
 
 -- ---- a turn more
 
@@ -119,16 +136,19 @@ module _ (s : Server) (bytes : List ℕ) (a b c : Option (List ℕ)) (m : Server
     rest = t.rest;
     left = t.left;
     run = inr (inr (closing result result t (inl (close, is))));
-    out = goes_out result a c _ (out_more a b c r.sents (sent_of t.item (is_last count) t.done.reply) r.out out);
+    out = sent_out result a b c r.sents (sent_of t.item (is_last count) t.done.reply) r.out out;
   }
   ended_answer result t (inr (is, out)) = record {
     sents = r.sents ++ sent_of t.item (is_last count) t.done.reply ∷ [];
     rest = t.rest;
     left = t.left;
     run = inr (inr (closing result result t (inr is)));
-    out = subst (λ how. GoesOut how a c (printed (r.sents ++ sent_of t.item (is_last count) t.done.reply ∷ []))) (sym is)
-        (front_more a b c r.sents (sent_of t.item (is_last count) t.done.reply) r.out out);
+    out = subst (λ how. GoesOut how a c (r.sents ++ sent_of t.item (is_last count) t.done.reply ∷ [])) (sym is)
+        (record { front = r.sents; sent = sent_of t.item (is_last count) t.done.reply; all = refl; between = b; whole = r.out; cut = out });
   }
+
+  stop_of : (result : Ended) (t : Stops m r.rest b c s' left' (Some result)) → IsOver r.rest t.rest result ⊎ IsUnread r.rest t.rest result
+  stop_of result t = subst (λ how. IsOver r.rest t.rest how ⊎ IsUnread r.rest t.rest how) (cc t.is) t.stop
 
   ended_stop : (result : Ended) (t : Stops m r.rest b c s' left' (Some result)) → IsSession s bytes a c s' left' result
   ended_stop result t = record {
@@ -138,9 +158,9 @@ module _ (s : Server) (bytes : List ℕ) (a b c : Option (List ℕ)) (m : Server
     run = inr (inl (record {
       left = r.rest;
       turns = subst (λ k. AreTurns 0 s bytes r.sents k r.rest) (sym t.same) r.turns;
-      stop = subst (λ how. IsOver r.rest t.rest how ⊎ IsUnread r.rest t.rest how) (cc t.is) t.stop;
+      stop = stop_of result t;
     }));
-    out = goes_out result a c _ (subst (λ o. Appends a o (printed r.sents)) (sym t.silent) r.out);
+    out = stopped_out r.rest t.rest result a c r.sents (stop_of result t) (subst (λ o. Appends a o (printed r.sents)) (sym t.silent) r.out);
   }
 
   ended_step : (result : Ended) → IsStep m r.rest (is_last count) b c s' left' (Some result) → IsSession s bytes a c s' left' result

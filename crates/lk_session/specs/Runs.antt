@@ -105,10 +105,19 @@ failures (sent ∷ more) = (if sent.reply.status == 503 then 1 else 0) + failure
 abbrev pub printed : List Sent → List ℕ
 printed sents = flat_map (λ sent. printed_reply sent.reply sent.close) sents
 
--- all replies went out; after a fault of writing a front of them did
-abbrev pub GoesOut : Ended → Option (List ℕ) → Option (List ℕ) → List ℕ → Type 0
-GoesOut ended.WriteFault held held' bytes = AppendsFront held held' bytes
-GoesOut how held held' bytes = Appends held held' bytes
+-- after a fault of writing: the replies before the last one went out, and of that a front
+pub record IsCutOff (held held' : Option (List ℕ)) (sents : List Sent) : Type 0 where
+  pub front : List Sent
+  pub sent : Sent
+  pub all : sents ≡ front ++ sent ∷ []
+  pub between : Option (List ℕ)
+  pub whole : Appends held between (printed front)
+  pub cut : AppendsFront between held' (printed_reply sent.reply sent.close)
+
+-- all replies went out, but after a fault of writing
+abbrev pub GoesOut : Ended → Option (List ℕ) → Option (List ℕ) → List Sent → Type 0
+GoesOut ended.WriteFault held held' sents = IsCutOff held held' sents
+GoesOut how held held' sents = Appends held held' (printed sents)
 
 -- a session over what comes in: some replies are those of a run, and are what went out
 pub record IsSession (s : Server) (bytes : List ℕ) (held held' : Option (List ℕ)) (s' : Server) (left' : Option (List ℕ)) (how : Ended) : Type 0 where
@@ -116,4 +125,4 @@ pub record IsSession (s : Server) (bytes : List ℕ) (held held' : Option (List 
   pub rest : List ℕ
   pub left : left' ≡ Some rest
   pub run : IsRun s bytes sents s' rest how
-  pub out : GoesOut how held held' (printed sents)
+  pub out : GoesOut how held held' sents
