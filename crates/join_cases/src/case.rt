@@ -7,7 +7,7 @@ use lk_exec::{ExecFault, visible};
 use lk_val::Text;
 use std::alloc::Global;
 
-/// The answer of a line: the rows, with `-` for a view that is null, or `many` where they are more than the cap.
+/// The answer of a line: how many rows and which, with `-` for a view that is null, or `many` where they are more than the cap.
 pub fn answer_line(alloc: Global, line: &str) -> Result<Text, CaseFault> {
     if line.is_empty() || line.starts_with("#") {
         return Ok(Text::from_str(alloc, line)?);
@@ -32,8 +32,13 @@ fn answer(alloc: Global, joins: &str, cap: Option<u64>, tables: &str) -> Result<
     let model = model_of(alloc, explore)?;
     let mut shown = Shown::new(alloc);
     match visible(alloc, &model, &plan, &sources, cap, &mut shown) {
-        Ok(_) => Ok(shown.into_text(alloc)?),
+        Ok(count) => counted(alloc, count, &shown.into_text(alloc)?),
         Err(ExecFault::Many) => Ok(Text::from_str(alloc, "many")?),
         Err(ExecFault::NoMemory) => Err(CaseFault::NoMemory),
     }
+}
+
+fn counted(alloc: Global, count: u64, rows: &Text) -> Result<Text, CaseFault> {
+    let rows = rows.as_str();
+    Ok(Text::from_string(format!(in alloc; "{count}: {rows}")?))
 }

@@ -1,5 +1,5 @@
 //! Cases of joins: a line of the input has joins, a cap and tables, as `left_outer 0.1=1.0 | - | 1 7, 2 8 | 7 EU`, and its
-//! answer is a line with the visible rows, as `1 7 7 EU, 2 8 -`.
+//! answer is a line with the visible rows and their number, as `2: 1 7 7 EU, 2 8 -`.
 #![tactic(auto)]
 
 mod case;
