@@ -1,10 +1,11 @@
 // What stands around the runs of the lines behind a line, and what of it fails. The fields are `input 1 fails`,
 // `output 2 fails` and `store 0 fails`, which let a call fail, counted from 0; `room of 20 bytes` for the output; `body of
-// 5 bytes`, which puts spaces behind the body; and `store of 3 loads`, of one row each, whose batches are gone.
+// 5 bytes`, which puts spaces behind the body; `store of 3 loads`, of one row each, whose batches are gone; and `batch TABLE of
+// TEXT`, one load more of one row, whose batch is there.
 
-use case_lines::CaseFault;
-use lk_keep::{Kept, KeptId, MemKeeper};
-use lk_val::{Bytes, Items, NoMemory, Text};
+use case_lines::{CaseFault, written};
+use lk_keep::{Chunk, Kept, KeptId, MemKeeper};
+use lk_val::{Bytes, Copied, Items, NoMemory, Text};
 use std::alloc::Global;
 
 // The most bytes that a run writes, where no line says otherwise.
@@ -21,6 +22,7 @@ pub struct Outside {
     pub room: usize,
     pub body: usize,
     pub loads: u64,
+    pub batches: Vec<Chunk>,
 }
 
 impl Outside {
@@ -33,6 +35,7 @@ impl Outside {
             room: ROOM,
             body: 0,
             loads: 0,
+            batches: Vec::new(alloc),
         }
     }
 
@@ -41,13 +44,13 @@ impl Outside {
         let mut outside = Outside::whole(alloc);
         for field in fields.split(" | ") {
             if !field.is_empty() {
-                outside.add(field)?;
+                outside.add(alloc, field)?;
             }
         }
         Ok(outside)
     }
 
-    fn add(&mut self, field: &str) -> Result<(), CaseFault> {
+    fn add(&mut self, alloc: Global, field: &str) -> Result<(), CaseFault> {
         if let Some(number) = number_in(field, "input ", " fails") {
             self.input.push(number)?;
         } else if let Some(number) = number_in(field, "output ", " fails") {
@@ -60,6 +63,11 @@ impl Outside {
             self.body = size;
         } else if let Some(size) = size_in(field, "store of ", " loads") {
             self.loads = size as u64;
+        } else if let Some((table, body)) = batch_in(field) {
+            self.batches.push(Chunk {
+                table: Text::from_str(alloc, table)?,
+                body: written(alloc, body)?,
+            })?;
         } else {
             return Err(CaseFault::NoSuchCase);
         }
@@ -76,17 +84,22 @@ impl Outside {
 
     /// The store of the runs.
     pub fn keeper(&self, alloc: Global) -> Result<MemKeeper, NoMemory> {
+        let count = self.loads.saturating_add(self.batches.len() as u64);
         let mut ids = Items::new(alloc);
-        for number in 1..=self.loads {
+        for number in 1..=count {
             ids.push(KeptId {
                 id: Text::from_string(format!(in alloc; "{number}")?),
                 number,
                 rows: 1,
             })?;
         }
+        let mut chunks = Items::new(alloc);
+        for batch in &self.batches {
+            chunks.push(batch.copied(alloc)?)?;
+        }
         let kept = Kept {
-            number: self.loads,
-            chunks: Items::new(alloc),
+            number: count,
+            chunks,
             ids,
         };
         Ok(MemKeeper::new(kept, calls(alloc, &self.store)?))
@@ -111,4 +124,8 @@ fn size_in(field: &str, front: &str, end: &str) -> Option<usize> {
     let size = field.strip_prefix(front)?.strip_suffix(end)?;
     let size = size.parse::<usize>().ok()?;
     if size <= MOST { Some(size) } else { None }
+}
+
+fn batch_in(field: &str) -> Option<(&str, &str)> {
+    field.strip_prefix("batch ")?.split_once(" of ")
 }

@@ -4,10 +4,12 @@ use lk_keep::{Chunk, Command, KeepFault, Keeper, Kept, KeptId};
 use lk_val::{Text, as_text};
 use sqlite::Connection;
 use std::alloc::Global;
+use std::fs;
 
 /// The answer of a line on the store of loads in a file, behind the word `store`: `begin` makes a store in a new file, `open`
 /// opens the same file anew, and `at PATH` one that is there; `load NUMBER ID TABLE append|replace ROWS | BODY`, `check NUMBER`
-/// and `read` call the store; `sql TEXT` closes it and changes its file by SQL.
+/// and `read` call the store; `sql TEXT` closes it and changes its file by SQL, and `readonly` closes it and lets nobody write to
+/// its file.
 pub fn answer_store(rt: &HostRuntime, store: &mut Store, line: &str) -> Result<Text, CaseFault> {
     let alloc = rt.alloc();
     let (task, rest) = parted(line, " ");
@@ -28,6 +30,11 @@ pub fn answer_store(rt: &HostRuntime, store: &mut Store, line: &str) -> Result<T
         "check" => answer_check(alloc, store, rest),
         "load" => answer_load(alloc, store, rest),
         "sql" => answer_sql(rt, store, rest),
+        "readonly" => {
+            store.close();
+            forbid_writing(rt, store.path(rt)?.as_str()).ok_or(CaseFault::NoSuchCase)?;
+            Ok(Text::from_str(alloc, task)?)
+        }
         _ => Err(CaseFault::NoSuchCase),
     }
 }
@@ -131,4 +138,10 @@ fn answer_sql(rt: &HostRuntime, store: &mut Store, text: &str) -> Result<Text, C
 fn run_sql(rt: &HostRuntime, path: &str, text: &str) -> Option<usize> {
     let mut connection = Connection::open(rt, path).ok()?;
     connection.execute(text, &[]).ok()
+}
+
+fn forbid_writing(rt: &HostRuntime, path: &str) -> Option<()> {
+    let mut permissions = fs::metadata(rt, path).ok()?.permissions();
+    permissions.set_readonly(true);
+    fs::set_permissions(rt, path, permissions).ok()
 }
