@@ -54,7 +54,7 @@ pub(crate) fn not_of(a: Option<bool>) -> Option<bool>
     }
 }
 
-// Whether a value is yes, and neither no nor unknown.
+/// Whether a value is yes, and neither no nor unknown.
 pub fn is_true(v: ValueRef<'_>) -> bool
     ensures { result ≡ is_true (value_of_ref v.entry) }
 {
