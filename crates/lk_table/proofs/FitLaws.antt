@@ -1,12 +1,13 @@
 -- The rows that are read have values of their columns' kinds.
-use Rattle.std.proofs.Common.{◌≡◌, ◌<◌, ◌++◌, ◌∷◌, ◌==◌, [], ℕ, suc, Bool, true, false, List, Option, Some, None, length, refl, sym, arith, ◌∙◌, get_or, if◌then◌else◌}
-use Rattle.std.specs.List.{All, list_any, position}
+use Rattle.std.proofs.Common.{◌≡◌, ◌<◌, ◌++◌, ◌∷◌, ◌==◌, [], ℕ, zero, suc, Bool, true, false, List, Option, Some, None, length, refl, sym, ap₂, arith, ◌∙◌, get_or, if◌then◌else◌}
+use Rattle.std.specs.List.{All, list_any}
 use Rattle.std.specs.Option.{option_map}
-use Rattle.std.specs.Prelude.{Result, Ok, Err, map, ◌&&◌}
-use Rattle.std.proofs.lemmas.Bool.{eqb-true}
-use Rattle.std.proofs.lemmas.List.{get_or-map, length-map}
+use Rattle.std.specs.Prelude.{Result, Ok, Err, map, ◌&&◌, ◌||◌}
+use Rattle.std.proofs.lemmas.Bool.{eqb-false, eqb-true, ltb-false, ltb-true}
+use Rattle.std.proofs.Math.Dec.{ltb}
+use Rattle.std.proofs.Math.ListN.{get_or-map}
+use Rattle.std.proofs.lemmas.List.{get_or_append_left, get_or_push, length_push}
 use Rattle.std.proofs.lemmas.List.Elements.{All-push}
-use Rattle.std.proofs.lemmas.List.FromFn.{get_or-map-range_with_len, length-map-range_with_len}
 use Rattle.std.proofs.lemmas.List.Quantifiers.{position-Some}
 use Rattle.lk_val.specs.Texts.{is_same_text}
 use Rattle.lk_val.specs.declared.value.Value.{Value}
@@ -20,9 +21,8 @@ use Rattle.lk_cell.specs.Days.{day_cell}
 use Rattle.lk_cell.specs.Moments.{moment_cell}
 use Rattle.lk_table.specs.Contents.{kind_of}
 use Rattle.lk_table.specs.Columns.{are_of_kinds}
-use Rattle.lk_table.specs.Batches.{Fields, column_at, no_column, or_name, place_named, places_of, record_values, row_from, sources_of, unless_among, value_from, value_then, values_of, and_then}
-use Rattle.lk_table.specs.Reading.{GivesRows}
-use Rattle.lk_table.proofs.RowLaws.{kind_at}
+use Rattle.lk_table.specs.Batches.{Fields, and_then, column_at, no_column, or_name, place_named, places_of, record_values, unless_among, value_then, values_of}
+use Rattle.lk_table.specs.Widening.{IsOnce, kind_at_place}
 
 -- ---- a cell
 
@@ -80,70 +80,88 @@ pub record_fit : (named : List ColumnDef) (fields : Fields) (values : Cells) →
     → are_of_kinds (map kind_of named) values ≡ true
 record_fit named fields values e = rw e at (record_fit_by named fields (length fields == length named) refl)
 
--- ---- a row
+-- ---- the header
 
-pub are_from_each : (kinds : List Kind) (cells : Cells) → length kinds ≡ length cells
-    → ((i : ℕ) → i < length kinds → is_of_kind (get_or kinds i kind.Text) (get_or cells i value.Null) ≡ true) → are_of_kinds kinds cells ≡ true
-are_from_each [] [] long each = refl
-are_from_each [] (v ∷ cells) long each = absurd (omega (arith, long))
-are_from_each (k ∷ kinds) [] long each = absurd (omega (arith, long))
-are_from_each (k ∷ kinds) (v ∷ cells) long each =
-    both_are (is_of_kind k v) (are_of_kinds kinds cells) (each 0 (omega arith))
-    (are_from_each kinds cells (omega (arith, long)) (λ i below. each (suc i) (omega (arith, below))))
+-- the kinds of the columns that a header names are those at its places
+pub kinds_there : (columns : List ColumnDef) (places : List ℕ)
+    → map kind_of (map (column_at columns) places) ≡ map (kind_at_place (map kind_of columns)) places
+kinds_there columns [] = refl
+kinds_there columns (place ∷ places) =
+    ap₂ (λ (k : Kind) (kinds : List Kind). k ∷ kinds) (sym (get_or-map kind_of columns place no_column)) (kinds_there columns places)
 
-module _ (columns : List ColumnDef) (places : List ℕ) where
-  abbrev the_source : ℕ → Option ℕ
-  the_source column = position (λ place. place == column) places
+named_within : (columns : List ColumnDef) (name : List ℕ) (place : ℕ) → place_named columns name ≡ Some place → place < length columns
+named_within columns name place e = (position-Some (λ (column : ColumnDef). is_same_text column.name name) columns place no_column e).0
 
-  source_fits : (values : Cells) (i : ℕ) (o : Option ℕ) → are_of_kinds (map kind_of (map (column_at columns) places)) values ≡ true
-      → the_source i ≡ o → is_of_kind (column_at columns i).kind (value_from values o) ≡ true
-  source_fits values i None fit is = null_fits (column_at columns i).kind
-  source_fits values i (Some j) fit is =
-      let found = position-Some (λ place. place == i) places j 0 is in
-      let same = eqb-true (get_or places j 0) i found.1 in
-      let there = get_or-map (column_at columns) places j 0 no_column found.0 in
-      let named = map (column_at columns) places in
-      let in_named : j < length named = omega (arith, found.0, length-map places (column_at columns)) in
-      let kinds = get_or-map kind_of named j no_column kind.Text in_named in
-      let fits = kind_at (map kind_of named) values j kind.Text value.Null fit (omega (arith, in_named, length-map named kind_of)) in
-      rw (kinds, there, same) at fits
-
-  pub rows_fit : GivesRows (map (column_at columns) places) (map kind_of columns) (sources_of (length columns) places)
-  rows_fit values fit =
-      are_from_each (map kind_of columns) (row_from (sources_of (length columns) places) values)
-      (length-map columns kind_of ∙ sym (length-map (sources_of (length columns) places) (value_from values) ∙ length-map-range_with_len the_source 0 (length columns)))
-      (λ i below. let within : i < length columns = omega (arith, below, length-map columns kind_of) in
-      let source = get_or-map-range_with_len the_source 0 (length columns) i i None within (omega arith) in
-      let cell = get_or-map (value_from values) (sources_of (length columns) places) i None value.Null (omega (arith, within, length-map-range_with_len the_source 0 (length columns))) in
-      let one = get_or-map kind_of columns i no_column kind.Text within in
-      rw (one, cell, source) (source_fits values i (the_source i) fit refl))
-
-  -- ---- the header
-
-  pub named_within : (name : List ℕ) (place : ℕ) → place_named columns name ≡ Some place → place < length columns
-  named_within name place e = (position-Some (λ (column : ColumnDef). is_same_text column.name name) columns place no_column e).0
-
-among_within : (columns : List ColumnDef) (places : List ℕ) (name : List ℕ) (o : Option ℕ) (place : ℕ) → place_named columns name ≡ o
-    → unless_among places o ≡ Some place → place < length columns
-among_within columns places name None place e f = cc f
-among_within columns places name (Some other) place e f = by (list_any (λ x. x == other) places) f
+-- a place that a name has, and that stands among none
+among_none : (columns : List ColumnDef) (places : List ℕ) (name : List ℕ) (o : Option ℕ) (place : ℕ) → place_named columns name ≡ o
+    → unless_among places o ≡ Some place → (place < length columns) × (list_any (λ other. other == place) places ≡ false)
+among_none columns places name None place e f = cc f
+among_none columns places name (Some other) place e f = by (list_any (λ x. x == other) places) refl f
   where
-    by : (b : Bool) → (if b then None else (Some other)) ≡ Some place → place < length columns
-    by true g = cc g
-    by false g = let same : other ≡ place = cc in rw (← same) (named_within columns places name other e)
+    by : (b : Bool) → list_any (λ x. x == other) places ≡ b → (if b then None else (Some other)) ≡ Some place
+        → (place < length columns) × (list_any (λ x. x == place) places ≡ false)
+    by true is g = cc g
+    by false is g = let same : other ≡ place = cc in rw (← same) (named_within columns name other e, is)
 
--- what holds of the names behind a name, whatever the name's place
-places_then : (columns : List ColumnDef) (name : List ℕ) (o : Option ℕ) (next : ℕ → Result (List ℕ) (List ℕ)) (all : List ℕ)
-    → ((place : ℕ) → o ≡ Some place → next place ≡ Ok all → All (λ p. p < length columns) all)
-    → and_then (or_name name o) next ≡ Ok all → All (λ p. p < length columns) all
-places_then columns name None next all each e = cc e
-places_then columns name (Some place) next all each e = each place refl e
+apart_by : (other place : ℕ) (rest b : Bool) → (other == place) ≡ b → (b || rest) ≡ false → (other ≡ place → ⊥) × (rest ≡ false)
+apart_by other place rest true is none = cc none
+apart_by other place rest false is none = (eqb-false other place is, none)
 
-pub places_within : (columns : List ColumnDef) (places : List ℕ) (names : Fields) (all : List ℕ)
-    → All (λ place. place < length columns) places → places_of columns places names ≡ Ok all → All (λ place. place < length columns) all
-places_within columns places [] all within e = let same : places ≡ all = cc in rw (← same) within
-places_within columns places (name ∷ names) all within e =
-    places_then columns name (unless_among places (place_named columns name)) (λ place. places_of columns (places ++ place ∷ []) names) all
-    (λ place is f. places_within columns (places ++ place ∷ []) names all
-    (All-push (λ p. p < length columns) places place within (among_within columns places name (place_named columns name) place refl is)) f)
-    e
+apart_from : (places : List ℕ) (place : ℕ) → list_any (λ other. other == place) places ≡ false
+    → (k : ℕ) → k < length places → get_or places k 0 ≡ place → ⊥
+apart_from [] place none k below same = absurd (omega (arith, below))
+apart_from (other ∷ places) place none zero below same =
+    (apart_by other place (list_any (λ x. x == place) places) (other == place) refl none).0 same
+apart_from (other ∷ places) place none (suc k) below same =
+    apart_from places place (apart_by other place (list_any (λ x. x == place) places) (other == place) refl none).1 k (omega (arith, below)) same
+
+-- a place that stands among none, behind those
+once_more : (places : List ℕ) (place : ℕ) → IsOnce places → list_any (λ other. other == place) places ≡ false → IsOnce (places ++ place ∷ [])
+once_more places place once none i j in_i in_j same = by (ltb i (length places)) (ltb j (length places)) refl refl
+  where
+    before : (k : ℕ) → k < length places → get_or (places ++ place ∷ []) k 0 ≡ get_or places k 0
+    before k below = get_or_append_left places (place ∷ []) 0 k below
+
+    last : (k : ℕ) → ltb k (length places) ≡ false → k < length (places ++ place ∷ []) → (k ≡ length places) × (get_or (places ++ place ∷ []) k 0 ≡ place)
+    last k out inside =
+        let here : length places ≡ k = omega (arith, inside, ltb-false k (length places) out, length_push places place) in
+        (sym here, get_or_push places place 0 k here)
+
+    by : (a b : Bool) → ltb i (length places) ≡ a → ltb j (length places) ≡ b → i ≡ j
+    by true true a b = once i j (ltb-true i (length places) a) (ltb-true j (length places) b)
+        (sym (before i (ltb-true i (length places) a)) ∙ same ∙ before j (ltb-true j (length places) b))
+    by true false a b = absurd (apart_from places place none i (ltb-true i (length places) a)
+        (sym (before i (ltb-true i (length places) a)) ∙ same ∙ (last j b in_j).1))
+    by false true a b = absurd (apart_from places place none j (ltb-true j (length places) b)
+        (sym (before j (ltb-true j (length places) b)) ∙ sym same ∙ (last i a in_i).1))
+    by false false a b = (last i a in_i).0 ∙ sym (last j b in_j).0
+
+-- what holds of no places, and of each place more, holds of all
+module _ (columns : List ColumnDef) (P : List ℕ → Type 0)
+    (more : (places : List ℕ) (place : ℕ) → P places → place < length columns → list_any (λ other. other == place) places ≡ false → P (places ++ place ∷ [])) where
+  -- of the names behind a name, whatever the name's place
+  places_then : (name : List ℕ) (o : Option ℕ) (next : ℕ → Result (List ℕ) (List ℕ)) (all : List ℕ)
+      → ((place : ℕ) → o ≡ Some place → next place ≡ Ok all → P all)
+      → and_then (or_name name o) next ≡ Ok all → P all
+  places_then name None next all each e = cc e
+  places_then name (Some place) next all each e = each place refl e
+
+  places_have : (places : List ℕ) (names : Fields) (all : List ℕ) → P places → places_of columns places names ≡ Ok all → P all
+  places_have places [] all had e = let same : places ≡ all = cc in rw (← same) had
+  places_have places (name ∷ names) all had e =
+      places_then name (unless_among places (place_named columns name)) (λ place. places_of columns (places ++ place ∷ []) names) all
+      (λ place is f. let found = among_none columns places name (place_named columns name) place refl is in
+      places_have (places ++ place ∷ []) names all (more places place had found.0 found.1) f)
+      e
+
+module _ (columns : List ColumnDef) (names : Fields) (all : List ℕ) (are : places_of columns [] names ≡ Ok all) where
+  pub places_within : All (λ place. place < length columns) all
+  places_within =
+      places_have columns (λ places. All (λ place. place < length columns) places)
+      (λ places place had inside none. All-push (λ p. p < length columns) places place had inside)
+      [] names all (λ k d below. absurd (omega (arith, below))) are
+
+  pub places_once : IsOnce all
+  places_once =
+      places_have columns IsOnce (λ places place had inside none. once_more places place had none)
+      [] names all (λ i j in_i in_j same. absurd (omega (arith, in_i))) are

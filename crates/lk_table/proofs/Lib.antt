@@ -4,6 +4,7 @@ pub mod ColumnLaws
 pub mod RowLaws
 pub mod BlockLaws
 pub mod ReadLaws
+pub mod WidenLaws
 pub mod FitLaws
 pub mod KeyLaws
 pub mod VersionLaws

@@ -5,11 +5,13 @@ use Rattle.std.specs.List.{position}
 use Rattle.std.proofs.lemmas.Bool.{le-ltb, lt-ltb}
 use Rattle.std.proofs.lemmas.List.Sums.{position_or_len_is}
 use Rattle.std.specs.Borrow.{Bor}
-use Rattle.std.proofs.lemmas.List.{append-nil, get_or_default, get_or-map, length-map, length_push}
+use Rattle.std.proofs.lemmas.List.{append-nil, get_or_default, get_or-map, length-map, length_push, map-append}
 use Rattle.lk_val.specs.declared.value.Value.{Value}
 use Rattle.lk_types.specs.Tables.{Cells, Rows}
 use Rattle.lk_types.specs.declared.schema.Kind.{Kind}
 use Rattle.lk_types.specs.declared.schema.ColumnDef.{ColumnDef}
+use Rattle.csv.specs.Records.{field_at}
+use Rattle.lk_csv.proofs.FieldLaws.{field-first}
 use Rattle.lk_cell.specs.CellValues.{cell_value}
 use Rattle.lk_table.specs.declared.fault.BatchFault.{BatchFault}
 use Rattle.lk_table.specs.declared.fault.BatchFault.TheVariants.{L3}
@@ -17,8 +19,11 @@ use Rattle.lk_types.specs.declared.schema.TableDef.{TableDef}
 use Rattle.lk_table.specs.Contents.{Content, content_of, kind_of, lacks_key}
 use Rattle.lk_table.specs.Versions.{IsShaped}
 use Rattle.lk_table.specs.Columns.{with_row}
-use Rattle.lk_table.specs.Reading.{record_added, rows_added}
-use Rattle.lk_table.specs.Batches.{Fields, and_then, carried, content_from, in_front, or_wrong, place_named, places_of, record_values, row_from, rows_from, unless_among, unless_null, values_of, with_keys}
+use Rattle.lk_val.specs.Memory.{IsUnlessMemory, Unless}
+use Rattle.lk_table.specs.Faults.{is_no_memory}
+use Rattle.lk_table.specs.Reading.{no_rows, record_added, rows_added}
+use Rattle.lk_table.specs.Widening.{widened}
+use Rattle.lk_table.specs.Batches.{Fields, and_then, carried, column_at, content_from, in_front, or_wrong, place_named, places_of, record_values, row_from, rows_behind, rows_from, sources_of, unless_among, unless_null, values_of, with_keys}
 
 pub in_front-in_front : {A E : Type 0} (front more : List A) (rest : Result (List A) E)
     → in_front (front ++ more) rest ≡ in_front front (in_front more rest)
@@ -50,33 +55,26 @@ pub record_long : (named : List ColumnDef) (fields : Fields) → length fields �
     → record_values named fields ≡ values_of named fields
 record_long named fields long = rw (eq-eqb (length fields) (length named) long) refl
 
--- the same of lists of references, of which a field is read
-module _ (named : List (Bor ColumnDef)) (fields : List (Bor (List ℕ))) (i : ℕ) (column : Bor ColumnDef) (none : Bor (List ℕ))
-    (in_named : i < length named) (long : length fields ≡ length named) (is : column ≡ get_or named i column) (front : Cells) where
-  in_fields : i < length fields
-  in_fields = omega (arith, in_named, long)
-
-  field_there : drop i (map (λ (f : Bor (List ℕ)). f.now) fields) ≡ (get_or fields i none).now ∷ drop (i + 1) (map (λ (f : Bor (List ℕ)). f.now) fields)
-  field_there = drop_there fields i (get_or fields i none) in_fields (get_or_default fields i none (get_or fields i none) in_fields)
-
+-- the same of a list of references, and of the field at a place
+module _ (named : List (Bor ColumnDef)) (fields : Fields) (i : ℕ) (column : Bor ColumnDef) (field : List ℕ)
+    (in_named : i < length named) (is : column ≡ get_or named i column) (here : field_at fields i ≡ Some field) (front : Cells) where
   column_there : drop i (map (λ (c : Bor ColumnDef). c.now) named) ≡ column.now ∷ drop (i + 1) (map (λ (c : Bor ColumnDef). c.now) named)
   column_there = drop_there named i column in_named is
 
-  pub reads_there : (v : Value) → Some v ≡ cell_value column.now.kind (get_or fields i none).now
-      → in_front front (values_of (drop i (map (λ c. c.now) named)) (drop i (map (λ f. f.now) fields))) ≡ values_of (map (λ c. c.now) named) (map (λ f. f.now) fields)
-      → in_front (front ++ v ∷ []) (values_of (drop (i + 1) (map (λ c. c.now) named)) (drop (i + 1) (map (λ f. f.now) fields)))
-      ≡ values_of (map (λ c. c.now) named) (map (λ f. f.now) fields)
+  pub reads_there : (v : Value) → Some v ≡ cell_value column.now.kind field
+      → in_front front (values_of (drop i (map (λ c. c.now) named)) (drop i fields)) ≡ values_of (map (λ c. c.now) named) fields
+      → in_front (front ++ v ∷ []) (values_of (drop (i + 1) (map (λ c. c.now) named)) (drop (i + 1) fields))
+      ≡ values_of (map (λ c. c.now) named) fields
   reads_there v reads rest =
-      value_reads (map (λ c. c.now) named) (map (λ f. f.now) fields) i column.now (get_or fields i none).now front column_there field_there v reads ∙ rest
+      value_reads (map (λ c. c.now) named) fields i column.now field front column_there (field-first fields i field here) v reads ∙ rest
 
-  pub fails_there : None ≡ cell_value column.now.kind (get_or fields i none).now
-      → in_front front (values_of (drop i (map (λ c. c.now) named)) (drop i (map (λ f. f.now) fields))) ≡ values_of (map (λ c. c.now) named) (map (λ f. f.now) fields)
-      → record_values (map (λ c. c.now) named) (map (λ f. f.now) fields) ≡ Err column.now.name
-  fails_there fails rest =
-      record_long (map (λ c. c.now) named) (map (λ f. f.now) fields)
-      (length-map fields (λ (f : Bor (List ℕ)). f.now) ∙ long ∙ sym (length-map named (λ (c : Bor ColumnDef). c.now)))
+  pub fails_there : length fields ≡ length named → None ≡ cell_value column.now.kind field
+      → in_front front (values_of (drop i (map (λ c. c.now) named)) (drop i fields)) ≡ values_of (map (λ c. c.now) named) fields
+      → record_values (map (λ c. c.now) named) fields ≡ Err column.now.name
+  fails_there long fails rest =
+      record_long (map (λ c. c.now) named) fields (long ∙ sym (length-map named (λ (c : Bor ColumnDef). c.now)))
       ∙ sym rest
-      ∙ value_fails (map (λ c. c.now) named) (map (λ f. f.now) fields) i column.now (get_or fields i none).now front column_there field_there fails
+      ∙ value_fails (map (λ c. c.now) named) fields i column.now field front column_there (field-first fields i field here) fails
 
 -- ---- names of a header
 
@@ -112,62 +110,84 @@ pub or_wrong_ok : {A : Type 0} (row : ℕ) (r : Result A (List ℕ)) (v : A) →
 or_wrong_ok row (Err name) v e = cc e
 or_wrong_ok row (Ok w) v e = let same : w ≡ v = cc in ap Ok same
 
-module _ (named : List ColumnDef) (sources : List (Option ℕ)) (content : Content) (fields : Fields) (row : ℕ)
-    (row_is : row ≡ length content.rows + 1) where
+module _ (named : List ColumnDef) (content : Content) (fields : Fields) (row : ℕ) (row_is : row ≡ length content.rows + 1) where
   pub record_gives : (values : Cells) → or_wrong row (record_values named fields) ≡ Ok values
-      → Ok (with_row content (row_from sources values)) ≡ record_added named sources content fields
+      → Ok (with_row content values) ≡ record_added named content fields
   record_gives values e = rw (← row_is, e) refl
 
-  pub record_lacks : (fault : BatchFault) → or_wrong row (record_values named fields) ≡ Err fault
-      → record_added named sources content fields ≡ Err fault
-  record_lacks fault e = rw (← row_is, e) refl
+pub added_kinds : (content more : Content) (row : ℕ) (r : Result Cells (List ℕ))
+    → Ok more ≡ and_then (or_wrong row r) (λ values. Ok (with_row content values)) → more.kinds ≡ content.kinds
+added_kinds content more row (Err name) e = cc e
+added_kinds content more row (Ok values) e =
+    let same : more ≡ with_row content values = cc in ap (λ (c : Content). c.kinds) same
 
-pub added_kinds : (sources : List (Option ℕ)) (content more : Content) (row : ℕ) (r : Result Cells (List ℕ))
-    → Ok more ≡ and_then (or_wrong row r) (λ values. Ok (with_row content (row_from sources values))) → more.kinds ≡ content.kinds
-added_kinds sources content more row (Err name) e = cc e
-added_kinds sources content more row (Ok values) e =
-    let same : more ≡ with_row content (row_from sources values) = cc in ap (λ (c : Content). c.kinds) same
-
-pub added_step : (named : List ColumnDef) (sources : List (Option ℕ)) (content more : Content) (fields : Fields) (left all : List Fields)
-    → all ≡ fields ∷ left → Ok more ≡ record_added named sources content fields
-    → rows_added named sources more left ≡ rows_added named sources content all
-added_step named sources content more fields left all is e = rw (is, ← e) refl
+pub added_step : (named : List ColumnDef) (content more : Content) (fields : Fields) (left all : List Fields)
+    → all ≡ fields ∷ left → Ok more ≡ record_added named content fields
+    → rows_added named more left ≡ rows_added named content all
+added_step named content more fields left all is e = rw (is, ← e) refl
 
 -- ---- all records
 
 abbrev fault_at : ℕ → List ℕ → Result Content BatchFault
 fault_at row name = Err (L3 row name)
 
--- more rows behind those of a content
-abbrev followed : Content → Rows → Content
-followed content rows = record { kinds = content.kinds; key = content.key; rows = content.rows ++ rows }
+module _ (kinds : List Kind) (key : Option ℕ) (sources : List (Option ℕ)) where
+  abbrev ok_rows : Rows → Result Content BatchFault
+  ok_rows rows = Ok (record { kinds = kinds; key = key; rows = rows })
 
-abbrev ok_content : List Kind → Option ℕ → Rows → Result Content BatchFault
-ok_content kinds key rows = Ok (record { kinds = kinds; key = key; rows = rows })
+  -- the rows of a content, widened, and more behind them
+  abbrev followed : Content → Rows → Result Content BatchFault
+  followed content rows = ok_rows (map (row_from sources) content.rows ++ rows)
 
-front_then : (content : Content) (row : Cells) (r : Result Rows BatchFault)
-    → and_then r (λ rows. Ok (followed (with_row content row) rows)) ≡ and_then (in_front (row ∷ []) r) (λ rows. Ok (followed content rows))
-front_then content row (Err fault) = refl
-front_then content row (Ok rows) =
-    ap (λ (all : Rows). ok_content content.kinds content.key all) (append_assoc content.rows (row ∷ []) rows)
+  front_then : (content : Content) (values : Cells) (r : Result Rows BatchFault)
+      → and_then r (followed (with_row content values)) ≡ and_then (in_front (row_from sources values ∷ []) r) (followed content)
+  front_then content values (Err fault) = refl
+  front_then content values (Ok rows) =
+      ap ok_rows
+      (ap (λ (front : Rows). front ++ rows) (map-append (row_from sources) content.rows (values ∷ []))
+      ∙ append_assoc (map (row_from sources) content.rows) (row_from sources values ∷ []) rows)
 
-module _ (named : List ColumnDef) (sources : List (Option ℕ)) where
-  pub all_added : (content : Content) (number : ℕ) (records : List Fields) → number ≡ length content.rows + 1
-      → rows_added named sources content records ≡ and_then (rows_from named sources number records) (λ rows. Ok (followed content rows))
-  all_added content number [] is = ap (λ (all : Rows). ok_content content.kinds content.key all) (sym (append-nil content.rows))
-  all_added content number (fields ∷ records) is = by (record_values named fields)
-      (λ values. all_added (with_row content (row_from sources values)) (number + 1) records
-      (omega (arith, is, length_push content.rows (row_from sources values))))
+  pub all_added : (named : List ColumnDef) (content : Content) (number : ℕ) (records : List Fields) → number ≡ length content.rows + 1
+      → and_then (rows_added named content records) (λ narrow. Ok (widened kinds key sources narrow))
+      ≡ and_then (rows_from named sources number records) (followed content)
+  all_added named content number [] is = ap ok_rows (sym (append-nil (map (row_from sources) content.rows)))
+  all_added named content number (fields ∷ records) is = by (record_values named fields)
+      (λ values. all_added named (with_row content values) (number + 1) records (omega (arith, is, length_push content.rows values)))
     where
       by : (r : Result Cells (List ℕ))
-          → ((values : Cells) → rows_added named sources (with_row content (row_from sources values)) records
-          ≡ and_then (rows_from named sources (number + 1) records) (λ rows. Ok (followed (with_row content (row_from sources values)) rows)))
-          → and_then (and_then (or_wrong (length content.rows + 1) r) (λ values. Ok (with_row content (row_from sources values))))
-          (λ more. rows_added named sources more records)
+          → ((values : Cells) → and_then (rows_added named (with_row content values) records) (λ narrow. Ok (widened kinds key sources narrow))
+          ≡ and_then (rows_from named sources (number + 1) records) (followed (with_row content values)))
+          → and_then (and_then (and_then (or_wrong (length content.rows + 1) r) (λ values. Ok (with_row content values)))
+          (λ more. rows_added named more records)) (λ narrow. Ok (widened kinds key sources narrow))
           ≡ and_then (and_then (or_wrong number r) (λ values. in_front (row_from sources values ∷ []) (rows_from named sources (number + 1) records)))
-          (λ rows. Ok (followed content rows))
+          (followed content)
       by (Err name) behind = ap (λ (n : ℕ). fault_at n name) (sym is)
-      by (Ok values) behind = behind values ∙ front_then content (row_from sources values) (rows_from named sources (number + 1) records)
+      by (Ok values) behind = behind values ∙ front_then content values (rows_from named sources (number + 1) records)
+
+-- of the columns that a header names, widened to those of the table
+module _ (def : TableDef) (places : List ℕ) (named : List ColumnDef) (kinds : List Kind) (records : List Fields)
+    (named_are : named ≡ map (column_at def.columns) places) (kinds_are : kinds ≡ map kind_of def.columns) where
+  abbrev wide_of : Result Content BatchFault → Result Content BatchFault
+  wide_of read = and_then read (λ narrow. Ok (widened kinds def.key (sources_of (length kinds) places) narrow))
+
+  all_behind : wide_of (rows_added named (no_rows named) records) ≡ content_from def (rows_behind def.columns records places)
+  all_behind = rw (named_are, kinds_are, length-map def.columns kind_of)
+      (all_added (map kind_of def.columns) def.key (sources_of (length def.columns) places) (map (column_at def.columns) places)
+      (no_rows (map (column_at def.columns) places)) 1 records (omega arith))
+
+  pub behind_ok : (narrow wide : Content) → Ok narrow ≡ rows_added named (no_rows named) records
+      → wide ≡ widened kinds def.key (sources_of (length kinds) places) narrow
+      → Ok wide ≡ content_from def (rows_behind def.columns records places)
+  behind_ok narrow wide e is = ap Ok is ∙ ap wide_of e ∙ all_behind
+
+  pub behind_err : (fault : BatchFault) → IsUnlessMemory is_no_memory (Err fault) (rows_added named (no_rows named) records)
+      → IsUnlessMemory is_no_memory (Err fault) (content_from def (rows_behind def.columns records places))
+  behind_err fault = by (is_no_memory fault)
+    where
+      by : (b : Bool) → Unless b (Err fault ≡ rows_added named (no_rows named) records)
+          → Unless b (Err fault ≡ content_from def (rows_behind def.columns records places))
+      by true any = tt
+      by false e = ap wide_of e ∙ all_behind
 
 -- ---- what a batch has of its table
 

@@ -6,6 +6,7 @@ pub mod Counts
 pub mod Columns
 pub mod Faults
 pub mod Reading
+pub mod Widening
 pub mod KeySets
 pub mod Versions
 pub mod BatchTexts

@@ -5,14 +5,15 @@ ghost use Rattle.lk_csv.specs.Reading.{IsReading, records_left};
 ghost use Rattle.lk_val.specs.Memory.{IsUnlessMemory};
 ghost use Rattle.lk_table.specs.Contents.{kind_of, lacks_key, row_at};
 ghost use Rattle.lk_table.specs.Batches.{batch_of, content_from, rows_behind, with_keys};
-ghost use Rattle.lk_table.specs.Reading.{record_added, rows_added, GivesRows};
+ghost use Rattle.lk_table.specs.Reading.{no_rows, record_added, rows_added};
 ghost use Rattle.lk_table.specs.Faults.{is_no_memory};
 ghost use Rattle.lk_table.specs.Versions.{IsShaped};
+ghost use Rattle.lk_table.specs.Widening.{IsOnce};
 
 use crate::block::Block;
 use crate::fault::BatchFault;
-use crate::header::{columns_at, read_places, sources_of};
-use crate::parse::{by_columns, read_values};
+use crate::header::{columns_at, read_places};
+use crate::parse::read_values;
 use crate::records::fields_in;
 use csv::{ByteRecord, Reader};
 use lk_csv::{reader_over, take_record};
@@ -84,57 +85,65 @@ fn read_behind(
     reader: &mut Reader<&[u8]>,
 ) -> Result<Block, BatchFault>
     requires places { All (λ place. place < length def.now.columns) places.now }
+    requires once { IsOnce places.now }
     requires reading { IsReading reader.old }
     ensures { IsUnlessMemory is_no_memory result
         (content_from def.now (rows_behind def.now.columns (records_left reader.old) places.now)) }
 {
     let columns = def.columns.as_slice();
     let named = columns_at(alloc, columns, places)?;
-    let sources = sources_of(alloc, columns.len(), places)?;
+    let block = read_rows(alloc, &named, reader)?;
     let kinds = kinds_of(alloc, columns)?;
-    let block = Block::new(alloc, &kinds, def.key)?;
-    read_rows(alloc, &named, &sources, reader, block)
+    Ok(block.widened(alloc, &kinds, def.key, places)?)
 }
 
-// The block with the rows of all the reader's records.
+// The values of all the reader's records, in the columns that the header names.
 fn read_rows(
     alloc: Global,
     named: &[&ColumnDef],
-    sources: &[Option<usize>],
     reader: &mut Reader<&[u8]>,
-    mut block: Block,
 ) -> Result<Block, BatchFault>
-    requires reading { IsReading reader.old }
-    requires fit { GivesRows (map (λ column. column.now) named.now) block.kinds sources.now }
-    ensures { IsUnlessMemory is_no_memory result (rows_added (map (λ column. column.now) named.now) sources.now
-        block (records_left reader.old)) }
+    requires { IsReading reader.old }
+    ensures value { IsUnlessMemory is_no_memory result (rows_added (map (λ column. column.now) named.now)
+        (no_rows (map (λ column. column.now) named.now)) (records_left reader.old)) }
+    ensures kinds { IfOk result (λ block. block.kinds ≡ map kind_of (map (λ column. column.now) named.now)) }
 {
+    let kinds = named_kinds(alloc, named)?;
+    let mut block = Block::new(alloc, &kinds, None)?;
     let mut record = ByteRecord::new(alloc);
     while take_record(reader, &mut record)? {
-        block = add_record(alloc, named, sources, &record, block)?;
+        block = add_record(alloc, named, &record, block)?;
     }
     Ok(block)
 }
 
-// The block with the row of one record more.
+// The block with the values of one record more.
 fn add_record(
     alloc: Global,
     named: &[&ColumnDef],
-    sources: &[Option<usize>],
     csv_record: &ByteRecord,
     block: Block,
 ) -> Result<Block, BatchFault>
-    requires { GivesRows (map (λ column. column.now) named.now) block.kinds sources.now }
-    ensures { IsUnlessMemory is_no_memory result (record_added (map (λ column. column.now) named.now) sources.now
-        block (fields_of csv_record.now)) }
+    requires { block.kinds ≡ map kind_of (map (λ column. column.now) named.now) }
+    ensures { IsUnlessMemory is_no_memory result
+        (record_added (map (λ column. column.now) named.now) block (fields_of csv_record.now)) }
 {
     let Some(row) = block.len().checked_add(1) else {
         return Err(BatchFault::NoMemory);
     };
-    let fields = fields_in(alloc, csv_record)?;
-    let values = read_values(alloc, row, named, &fields)?;
-    let cells = by_columns(alloc, sources, &values)?;
-    Ok(block.with_row(&cells)?)
+    let values = read_values(alloc, row, named, csv_record)?;
+    Ok(block.with_row(&values)?)
+}
+
+// The kinds of the columns that the header names.
+fn named_kinds(alloc: Global, named: &[&ColumnDef]) -> Result<Vec<Kind>, NoMemory>
+    ensures { IfOk result (λ kinds. kinds.items ≡ map kind_of (map (λ column. column.now) named.now)) }
+{
+    let mut kinds = Vec::with_capacity(alloc, named.len())?;
+    for column in named {
+        kinds.push(column.kind)?;
+    }
+    Ok(kinds)
 }
 
 /// The kinds of the columns.

@@ -1,18 +1,20 @@
-ghost use Rattle.std.specs.Prelude.{◌≡◌, ◌<◌, ◌++◌, ◌∷◌, [], true, IfOk, OnOk, length, map};
+ghost use Rattle.std.specs.Prelude.{◌≡◌, ◌<◌, ◌++◌, ◌∷◌, [], true, IfOk, IfSome, OnOk, length, map};
 ghost use Rattle.std.specs.List.{All};
 ghost use Rattle.lk_val.specs.ValueRefs.{value_of_ref};
 ghost use Rattle.lk_table.specs.Contents.{cell_at, row_at, text_bytes, text_length};
+ghost use Rattle.lk_table.specs.Batches.{sources_of};
 ghost use Rattle.lk_table.specs.Columns.{AreText, IsMarked, are_of_kinds, kind_in, lengths_added, pushed, values_in, with_row};
+ghost use Rattle.lk_table.specs.Widening.{IsOnce, column_from, kind_at_place, left_from, wide_from, widened};
 
 use crate::cells::{cell_in, push_cell};
 use crate::column::Column;
-use crate::counts::Counts;
-use crate::nullable::Nullable;
+use crate::header::source_of;
 use lk_region::Region;
 use lk_types::Kind;
 use lk_val::{NoMemory, ValueRef};
 use std::alloc::Global;
 use std::marker::Model;
+use std::mem;
 
 /// Rows in columns, and the texts of their cells in one region. Clauses see the rows.
 #[derive(Drop)]
@@ -48,7 +50,7 @@ impl Block {
     {
         let mut columns = Vec::with_capacity(alloc, kinds.len())?;
         for kind in kinds {
-            columns.push(new_column(alloc, *kind))?;
+            columns.push(Column::nulls(alloc, *kind, 0))?;
         }
         Ok(Block {
             region: Region::new(alloc),
@@ -76,6 +78,37 @@ impl Block {
         };
         let text = add_lengths(text, cells)?;
         push_cells(&mut region, &mut columns, cells)?;
+        Ok(Block {
+            region,
+            columns,
+            key,
+            count,
+            text,
+        })
+    }
+
+    /// The block in columns of these kinds: its own stand at the places, and each other column is null.
+    pub(crate) fn widened(
+        self,
+        alloc: Global,
+        kinds: &[Kind],
+        key: Option<u32>,
+        places: &[usize],
+    ) -> Result<Block, NoMemory>
+        requires kinds { self.kinds ≡ map (kind_at_place kinds.now) places.now }
+        requires within { All (λ place. place < length kinds.now) places.now }
+        requires once { IsOnce places.now }
+        ensures { IfOk result (λ block. block
+            ≡ widened kinds.now key (sources_of (length kinds.now) places.now) self) }
+    {
+        let Block {
+            region,
+            columns,
+            key: _,
+            count,
+            text,
+        } = self;
+        let columns = wide_columns(alloc, kinds, count, places, columns)?;
         Ok(Block {
             region,
             columns,
@@ -154,18 +187,41 @@ impl Block {
     }
 }
 
-// A column without cells.
-fn new_column(alloc: Global, kind: Kind) -> Column
-    ensures kind { kind_in result ≡ kind }
-    ensures empty { values_in [] result ≡ [] }
-    ensures marked { IsMarked 0 result }
+// The columns of these kinds: those at the places are taken from the narrow ones, and each other is so many nulls.
+fn wide_columns(
+    alloc: Global,
+    kinds: &[Kind],
+    count: u32,
+    places: &[usize],
+    mut narrow: Vec<Column>,
+) -> Result<Vec<Column>, NoMemory>
+    requires { length narrow.items ≡ length places.now }
+    ensures { IfOk result (λ wide. wide.items
+        ≡ wide_from kinds.now count places.now narrow.items (length kinds.now)) }
 {
-    match kind {
-        Kind::Text => Column::Text(Nullable::new(alloc)),
-        Kind::Number => Column::Number(Counts::new(alloc)),
-        Kind::Truth => Column::Truth(Nullable::new(alloc)),
-        Kind::Day => Column::Day(Nullable::new(alloc)),
-        Kind::Moment => Column::Moment(Counts::new(alloc)),
+    let mut wide = Vec::with_capacity(alloc, kinds.len())?;
+    for i in 0..kinds.len() {
+        let column = take_column(alloc, &mut narrow, source_of(places, i), kinds[i], count);
+        wide.push(column)?;
+    }
+    Ok(wide)
+}
+
+// The column at the source, or so many nulls.
+fn take_column(
+    alloc: Global,
+    narrow: &mut Vec<Column>,
+    source: Option<usize>,
+    kind: Kind,
+    count: u32,
+) -> Column
+    requires { IfSome source (λ i. i < length narrow.old.items) }
+    ensures value { result ≡ column_from narrow.old.items count kind source }
+    ensures left { narrow.new.items ≡ left_from narrow.old.items kind source }
+{
+    match source {
+        Some(i) => mem::replace(&mut narrow[i], Column::nulls(alloc, kind, 0)),
+        None => Column::nulls(alloc, kind, count),
     }
 }
 

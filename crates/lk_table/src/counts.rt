@@ -1,4 +1,4 @@
-ghost use Rattle.std.specs.Prelude.{◌≡◌, ◌<◌, ◌++◌, ◌∷◌, [], OnErr, OnOk, Some, None, if◌then◌else◌, length, slice_index_or};
+ghost use Rattle.std.specs.Prelude.{◌≡◌, ◌<◌, ◌++◌, ◌∷◌, [], OnErr, OnOk, Some, None, if◌then◌else◌, length, replicate, slice_index_or};
 
 use lk_val::NoMemory;
 use std::alloc::Global;
@@ -29,12 +29,12 @@ impl Model for Counts {
 }
 
 impl Counts {
-    /// No counts, which take no memory.
-    pub(crate) fn new(alloc: Global) -> Counts
-        ensures { result ≡ [] }
+    /// So many nulls, which take no memory.
+    pub(crate) fn nulls(alloc: Global, count: usize) -> Counts
+        ensures { result ≡ replicate count None }
     {
         Counts {
-            nulls: 0,
+            nulls: count,
             counts: Vec::new(alloc),
             present: Vec::new(alloc),
         }

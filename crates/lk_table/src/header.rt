@@ -1,7 +1,7 @@
 ghost use Rattle.std.specs.Prelude.{◌≡◌, ◌<◌, ◌==◌, [], IfOk, IfErr, Ok, Err, length, map};
 ghost use Rattle.std.specs.List.{All, position};
 ghost use Rattle.lk_val.specs.Memory.{Unless};
-ghost use Rattle.lk_table.specs.Batches.{carried, column_at, or_wrong, place_named, places_of, sources_of, unless_among};
+ghost use Rattle.lk_table.specs.Batches.{carried, column_at, or_wrong, place_named, places_of, unless_among};
 ghost use Rattle.lk_table.specs.Faults.{is_no_memory};
 
 use crate::fault::BatchFault;
@@ -52,22 +52,8 @@ pub(crate) fn columns_at<'a>(
     Ok(named)
 }
 
-/// The place in a record of each of so many columns, by the columns that the header names.
-pub(crate) fn sources_of(
-    alloc: Global,
-    width: usize,
-    places: &[usize],
-) -> Result<Vec<Option<usize>>, NoMemory>
-    ensures { IfOk result (λ sources. sources.items ≡ sources_of width places.now) }
-{
-    let mut sources = Vec::with_capacity(alloc, width)?;
-    for column in 0..width {
-        sources.push(source_of(places, column))?;
-    }
-    Ok(sources)
-}
-
-fn source_of(places: &[usize], column: usize) -> Option<usize>
+/// The place in a record of a column of the table, if the header names it.
+pub(crate) fn source_of(places: &[usize], column: usize) -> Option<usize>
     ensures { result ≡ position (λ place. place == column) places.now }
 {
     places.iter().position(|place| *place == column)

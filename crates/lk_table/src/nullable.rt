@@ -1,4 +1,4 @@
-ghost use Rattle.std.specs.Prelude.{◌≡◌, ◌<◌, ◌++◌, ◌∷◌, [], OnErr, OnOk, None, length, slice_index_or};
+ghost use Rattle.std.specs.Prelude.{◌≡◌, ◌<◌, ◌++◌, ◌∷◌, [], OnErr, OnOk, None, length, replicate, slice_index_or};
 
 use lk_val::NoMemory;
 use std::alloc::Global;
@@ -23,12 +23,12 @@ impl<T> Model for Nullable<T> {
 }
 
 impl<T: Copy> Nullable<T> {
-    /// No cells, which take no memory.
-    pub(crate) fn new(alloc: Global) -> Nullable<T>
-        ensures { result ≡ [] }
+    /// So many nulls, which take no memory.
+    pub(crate) fn nulls(alloc: Global, count: usize) -> Nullable<T>
+        ensures { result ≡ replicate count None }
     {
         Nullable {
-            nulls: 0,
+            nulls: count,
             cells: Vec::new(alloc),
         }
     }

@@ -1,4 +1,5 @@
 ghost use Rattle.std.specs.Prelude.{◌≡◌, ◌≢◌, [], IfOk, IfErr, Ok, Err, map, option_map};
+ghost use Rattle.csv.specs.Records.{fields_of};
 ghost use Rattle.lk_val.specs.Memory.{Unless};
 ghost use Rattle.lk_val.specs.ValueRefs.{value_of_ref};
 ghost use Rattle.lk_val.specs.declared.value.Value.TheVariants as value;
@@ -6,10 +7,12 @@ ghost use Rattle.lk_types.specs.declared.schema.Kind.TheVariants as kind;
 ghost use Rattle.lk_cell.specs.CellValues.{cell_value, number_cell, text_cell, truth_cell};
 ghost use Rattle.lk_cell.specs.Days.{day_cell};
 ghost use Rattle.lk_cell.specs.Moments.{moment_cell};
-ghost use Rattle.lk_table.specs.Batches.{or_wrong, record_values, row_from, value_from};
+ghost use Rattle.lk_table.specs.Batches.{or_wrong, record_values};
 ghost use Rattle.lk_table.specs.Faults.{is_no_memory};
 
 use crate::fault::BatchFault;
+use crate::records::field_at;
+use csv::ByteRecord;
 use lk_cell::{read_cell, read_day, read_moment};
 use lk_types::{ColumnDef, Kind};
 use lk_val::{NoMemory, Num, Text, Value, ValueRef, as_text};
@@ -24,24 +27,24 @@ pub(crate) fn read_values<'a>(
     alloc: Global,
     row: u32,
     named: &[&ColumnDef],
-    fields: &[&'a [u8]],
+    csv_record: &'a ByteRecord,
 ) -> Result<Vec<ValueRef<'a>>, BatchFault>
     ensures ok { IfOk result (λ values. or_wrong row (record_values
-        (map (λ column. column.now) named.now) (map (λ field. field.now) fields.now))
+        (map (λ column. column.now) named.now) (fields_of csv_record.now))
         ≡ Ok (map value_of_ref values.items)) }
     ensures fault { IfErr result (λ fault. Unless (is_no_memory fault) (or_wrong row (record_values
-        (map (λ column. column.now) named.now) (map (λ field. field.now) fields.now))
+        (map (λ column. column.now) named.now) (fields_of csv_record.now))
         ≡ Err fault)) }
 {
-    if fields.len() != named.len() {
+    if csv_record.len() != named.len() {
         return Err(BatchFault::L3 {
             row,
             column: Text::new(alloc),
         });
     }
-    let mut values = Vec::with_capacity(alloc, fields.len())?;
+    let mut values = Vec::with_capacity(alloc, named.len())?;
     for (i, column) in named.iter().enumerate() {
-        match read_ref(alloc, column.kind, fields[i])? {
+        match read_ref(alloc, column.kind, field_at(csv_record, i))? {
             Some(value) => values.push(value)?,
             None => {
                 return Err(BatchFault::L3 {
@@ -52,31 +55,6 @@ pub(crate) fn read_values<'a>(
         }
     }
     Ok(values)
-}
-
-/// A record's values by the table's columns: each is taken from its place in the record, or null.
-pub(crate) fn by_columns<'a>(
-    alloc: Global,
-    sources: &[Option<usize>],
-    values: &[ValueRef<'a>],
-) -> Result<Vec<ValueRef<'a>>, NoMemory>
-    ensures { IfOk result (λ row. map value_of_ref row.items
-        ≡ row_from sources.now (map value_of_ref values.now)) }
-{
-    let mut row = Vec::with_capacity(alloc, sources.len())?;
-    for source in sources {
-        row.push(value_from(values, *source))?;
-    }
-    Ok(row)
-}
-
-fn value_from<'a>(values: &[ValueRef<'a>], source: Option<usize>) -> ValueRef<'a>
-    ensures { value_of_ref result ≡ value_from (map value_of_ref values.now) source }
-{
-    match source {
-        Some(place) if place < values.len() => values[place],
-        _ => ValueRef::Null,
-    }
 }
 
 // The value that a field of a kind reads as, where it lies, if it reads; null where the field is empty.

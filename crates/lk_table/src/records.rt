@@ -1,5 +1,5 @@
-ghost use Rattle.std.specs.Prelude.{◌≡◌, IfOk, map};
-ghost use Rattle.csv.specs.Records.{fields_of};
+ghost use Rattle.std.specs.Prelude.{◌≡◌, ◌<◌, IfOk, Some, length, map};
+ghost use Rattle.csv.specs.Records.{field_at, fields_of};
 
 use csv::ByteRecord;
 use lk_val::NoMemory;
@@ -14,4 +14,16 @@ pub(crate) fn fields_in(alloc: Global, csv_record: &ByteRecord) -> Result<Vec<&[
         fields.push(field)?;
     }
     Ok(fields)
+}
+
+/// A field of a record, where it lies.
+pub(crate) fn field_at(csv_record: &ByteRecord, i: usize) -> &[u8]
+    requires { i < length (fields_of csv_record.now) }
+    ensures { field_at (fields_of csv_record.now) i ≡ Some result.now }
+{
+    match csv_record.get(i) {
+        Some(field) => field,
+        // A record has a field at each place below its length.
+        None => unreachable!(),
+    }
 }

@@ -1,9 +1,10 @@
-use Rattle.std.proofs.Common.{arith, ap, ◌∙◌, [], map, sym, Bor, List, ℕ}
+use Rattle.std.proofs.Common.{ap, ◌∙◌, [], map, subst, sym, Bor, List, ℕ}
 use Rattle.lk_types.specs.declared.schema.ColumnDef.{ColumnDef}
 use Rattle.lk_csv.specs.Reading.{records_left}
 use Rattle.lk_table.specs.Batches.{places_of, rows_behind}
 use Rattle.lk_table.specs.Contents.{Content}
-use Rattle.lk_table.proofs.FitLaws.{places_within}
+use Rattle.lk_table.specs.Widening.{IsOnce}
+use Rattle.lk_table.proofs.FitLaws.{places_once, places_within}
 use Rattle.lk_table.proofs.ReadLaws.{keys_kept, shape_from}
 use Rattle.lk_table.proofs.batch.read_batch.Goals as goal
 
@@ -12,8 +13,14 @@ read_behind-requires-clause-places c =
     let columns = c.args.def.now.columns in
     let names = map (λ (name : Bor (List ℕ)). name.now) c.deref.result.now in
     let told = ap (λ (all : List ColumnDef). places_of all [] names) (sym c.as_slice.ensures) ∙ c.in_ok-places.ensures.ok in
-    rw c.deref-2.ensures.value
-    (places_within columns [] names c.in_ok-places.places.items (λ k d below. absurd (omega (arith, below))) told)
+    rw c.deref-2.ensures.value (places_within columns names c.in_ok-places.places.items told)
+
+pub read_behind-requires-clause-once : goal.read_behind-requires-clause-once
+read_behind-requires-clause-once c =
+    let columns = c.args.def.now.columns in
+    let names = map (λ (name : Bor (List ℕ)). name.now) c.deref.result.now in
+    let told = ap (λ (all : List ColumnDef). places_of all [] names) (sym c.as_slice.ensures) ∙ c.in_ok-places.ensures.ok in
+    subst IsOnce (sym c.deref-2.ensures.value) (places_once columns names c.in_ok-places.places.items told)
 
 pub returns-clause-shape : goal.returns-clause-shape
 returns-clause-shape c =

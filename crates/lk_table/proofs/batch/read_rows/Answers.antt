@@ -8,14 +8,13 @@ use Rattle.lk_table.proofs.batch.read_rows.Goals as goal
 pub loop-record-preserved : goal.loop-record-preserved
 loop-record-preserved c =
     let named = map (λ (column : Bor ColumnDef). column.now) c.args.named.now in
-    let sources = c.args.sources.now in
     let fields = fields_of c.take_record.new.row in
     let left = records_left c.take_record.new.reader in
     let took = c.in_ok-take_record.ensures in
     let all = took.value ∙ ap (λ found. before found fields left) c.if-branch.true in
     record {
       reading = took.reading c.if-branch.true;
-      kinds = added_kinds sources c.loop-record.block c.in_ok-block.block _ _ c.in_ok-block.ensures ∙ c.loop-record.invariant.kinds;
-      rest = added_step named sources c.loop-record.block c.in_ok-block.block fields left (records_left c.loop-record.reader) all c.in_ok-block.ensures
+      kinds = added_kinds c.loop-record.block c.in_ok-block-2.block _ _ c.in_ok-block-2.ensures ∙ c.loop-record.invariant.kinds;
+      rest = added_step named c.loop-record.block c.in_ok-block-2.block fields left (records_left c.loop-record.reader) all c.in_ok-block-2.ensures
           ∙ c.loop-record.invariant.rest;
     }

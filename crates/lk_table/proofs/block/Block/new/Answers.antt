@@ -1,5 +1,22 @@
+use Rattle.std.proofs.Common.{◌∙◌, ◌++◌, ◌∷◌, [], ap, arith}
+use Rattle.lk_table.specs.declared.column.Column.{Column}
 use Rattle.lk_table.proofs.BlockLaws.{nothing_held}
+use Rattle.lk_table.proofs.WidenLaws.{none_empty, none_kinds, none_marked}
 use Rattle.lk_table.proofs.block.Block.new.Goals as goal
+
+pub loop-kind-preserved : goal.loop-kind-preserved
+loop-kind-preserved c =
+    let kinds = c.args.kinds.now in
+    let i = c.loop-kind.kind-index in
+    let columns = c.loop-kind.columns.items in
+    let more = c.push.new.self.items in
+    let kept = c.loop-kind.invariant in
+    let is = c.in_ok-push.ensures.items ∙ ap (λ (one : Column). columns ++ one ∷ []) c.nulls.ensures in
+    record {
+      kinds = none_kinds kinds i columns more (omega arith) is kept.kinds;
+      empty = none_empty kinds i columns more (omega arith) is kept.empty;
+      marked = none_marked kinds i columns more (omega arith) is kept.marked;
+    }
 
 pub invariant_of-result : goal.invariant_of-result
 invariant_of-result c =
