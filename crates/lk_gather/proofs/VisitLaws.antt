@@ -49,7 +49,9 @@ moved at now x y plan other s most acc now_is x_is plan_is h =
 -- a visit that the cap ended
 pub over : {V : Type 0} (has_seen : V → List Joined → Type 0) (most : Option ℕ) (rows : List Joined) (before after : V) (fault : ExecFault)
     → fault ≡ Many → IsVisit has_seen most [] rows before after (Err fault) → IsOver most rows
-over has_seen most rows before after fault is h = subst (λ f. IsVisit has_seen most [] rows before after (Err f)) is h
+over has_seen most rows before after fault is h =
+    let ended : IsVisit has_seen most [] rows before after (Err Many) = subst (λ f. IsVisit has_seen most [] rows before after (Err f)) is h in
+    ended.0
 
 -- and so is the cap that was passed
 pub moved_over : (x y : Explore) (plan other : Plan) (s : Sources) (most : Option ℕ) → x ≡ y → plan ≡ other
