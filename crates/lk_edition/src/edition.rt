@@ -193,3 +193,13 @@ fn share_loads(alloc: Global, loads: &[Arc<KeptId>]) -> Result<Items<Arc<KeptId>
     }
     Ok(shared)
 }
+
+// Takes types whose values may be handed to other threads and shared by them.
+fn are_shared<T: Send + Sync>() {}
+
+/// An edition may be handed to other threads and shared by them, alone or in an `Arc`: that is what the types of this body say.
+/// It computes nothing. (lookd)
+pub fn editions_are_shared() {
+    are_shared::<Edition>();
+    are_shared::<Arc<Edition>>();
+}

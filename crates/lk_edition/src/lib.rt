@@ -16,7 +16,7 @@ mod replies;
 mod tables;
 
 pub use call::LoadCall;
-pub use edition::Edition;
+pub use edition::{Edition, editions_are_shared};
 pub use fault::{CheckFault, LoadFault, OpenFault};
 pub use office::{Office, Unopened};
 pub use plan::{LoadPlan, Pending};
