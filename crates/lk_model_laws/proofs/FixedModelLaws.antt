@@ -60,7 +60,7 @@ use Rattle.lk_model_laws.proofs.WholeExploreLaws.{placed_field}
 
 -- ---- the texts of filters are read
 
-abbrev FieldsOfKinds : DeclaredView → Type 0
+abbrev pub FieldsOfKinds : DeclaredView → Type 0
 FieldsOfKinds v = AllByRecursion (λ (f : DeclaredField). AllByRecursion IsOfKinds f.filters) v.fields
 
 kinds_of_fields : (name : List ℕ) (items : List Item) (fields : List DeclaredField) → AreFields name items fields → AllByRecursion (λ f. AllByRecursion IsOfKinds f.filters) fields
@@ -69,13 +69,13 @@ kinds_of_fields name [] (f ∷ fields) h = absurd h
 kinds_of_fields name (item ∷ items) [] h = absurd h
 kinds_of_fields name (item ∷ items) (f ∷ fields) h = (filters_of_kinds (filters_of f.sort (block_items item)) f.filters h.0.filters_are, kinds_of_fields name items fields h.1)
 
-kinds_of_views : (schema : Schema) (objects : List Object) (views : List DeclaredView) → AreViews schema objects views → AllByRecursion FieldsOfKinds views
+pub kinds_of_views : (schema : Schema) (objects : List Object) (views : List DeclaredView) → AreViews schema objects views → AllByRecursion FieldsOfKinds views
 kinds_of_views schema [] [] h = tt
 kinds_of_views schema [] (v ∷ views) h = absurd h
 kinds_of_views schema (o ∷ objects) [] h = absurd h
 kinds_of_views schema (o ∷ objects) (v ∷ views) h = (kinds_of_fields o.name (fields_in (items_of o.tree)) v.fields h.0.fields_are, kinds_of_views schema objects views h.1)
 
-kinds_of_filters : (explore : List ℕ) (items : List Item) (filters : List ExploreFilter) → AreExploreFilters explore items filters → AllByRecursion HasKinds filters
+pub kinds_of_filters : (explore : List ℕ) (items : List Item) (filters : List ExploreFilter) → AreExploreFilters explore items filters → AllByRecursion HasKinds filters
 kinds_of_filters explore [] [] h = tt
 kinds_of_filters explore [] (f ∷ filters) h = absurd h
 kinds_of_filters explore (item ∷ items) [] h = absurd h

@@ -97,7 +97,7 @@ module _ (schema : Schema) (merged : Merged) (declared : Declared) (objects : Ha
   abbrev made : DeclaredExplore → Explore
   made x = resolved schema declared (kinds_of schema declared) x
 
-  codes : AllByRecursion (λ v. AllByRecursion HasDatedCodes v.fields) declared.views
+  pub codes : AllByRecursion (λ v. AllByRecursion HasDatedCodes v.fields) declared.views
   codes = dated_codes schema merged.views declared.views objects.views_are
 
   sorted : AllByRecursion (λ v. AllByRecursion HasSortedCode v.fields) declared.views
@@ -106,10 +106,10 @@ module _ (schema : Schema) (merged : Merged) (declared : Declared) (objects : Ha
   bounds : AllByRecursion (λ v. AllByRecursion HasBounds v.fields) declared.views
   bounds = bounded_views schema merged.views declared.views objects.views_are (fields_fine schema declared (kinds_of schema declared) (clear schema merged declared objects none))
 
-  abbrev IsFine : DeclaredExplore → Type 0
+  abbrev pub IsFine : DeclaredExplore → Type 0
   IsFine x = IsClear schema declared (kinds_of schema declared) x × (IsRightExplore declared.datagroups x × AllByRecursion IsDatedFilter x.filters)
 
-  fine : AllByRecursion IsFine declared.explores
+  pub fine : AllByRecursion IsFine declared.explores
   fine =
       let clear_ones = (clear schema merged declared objects none).explores in
       all_with (IsClear schema declared (kinds_of schema declared)) (λ x. IsRightExplore declared.datagroups x × AllByRecursion IsDatedFilter x.filters) declared.explores clear_ones
@@ -127,7 +127,7 @@ module _ (schema : Schema) (merged : Merged) (declared : Declared) (objects : Ha
       abbrev columns : ColumnKinds
       columns = columns_in (kinds_of schema declared) scope
 
-      stored_part : (k : ℕ) (part : ScopePart) → slice_get scope.parts k ≡ Some part → IsStoredPart schema declared part
+      pub stored_part : (k : ℕ) (part : ScopePart) → slice_get scope.parts k ≡ Some part → IsStoredPart schema declared part
       stored_part k part at =
           let known = known_parts schema declared (kinds_of schema declared) (views_right schema merged declared objects none) x is.0 is.1.0 k part at in
           record { number = known.number; view = known.view; named = known.named; at = known.at; stored = all_at (IsStored schema) declared.views stored_views known.number known.view known.at }

@@ -46,3 +46,17 @@ pub mod ColumnLaws
 pub mod CertainLaws
 pub mod ExtremeTypedLaws
 pub mod RawTypedLaws
+pub mod OwnNameLaws
+pub mod FoundLaws
+pub mod FilterKindLaws
+pub mod RawTimeLaws
+pub mod MadeNameLaws
+pub mod FilterModelLaws
+pub mod KeyConditionLaws
+pub mod JoinTypedLaws
+pub mod JoinModelLaws
+pub mod SpelledLaws
+pub mod SpelledCodeLaws
+pub mod SpelledJoinLaws
+pub mod SpelledModelLaws
+pub mod ResolvedModelLaws

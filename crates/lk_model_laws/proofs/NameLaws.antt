@@ -123,7 +123,7 @@ module _ (views : List DeclaredView) (scope : Scope) where
 
   -- ---- dimensions
 
-  same_dimensions : (part : List ℕ) (place : Place) (s : FieldSort) (name : List ℕ) (frames : List Frame) → has_sort sort.Dimension s ≡ true
+  pub same_dimensions : (part : List ℕ) (place : Place) (s : FieldSort) (name : List ℕ) (frames : List Frame) → has_sort sort.Dimension s ≡ true
       → dimensions_by_sort part place s name frames ≡ map (dimension_made part place) (made_with s name frames)
   same_dimensions part place (field_sort.Measure o) name frames h = absurd (false≢true h)
   same_dimensions part place (field_sort.Dimension t) name frames h = refl

@@ -59,7 +59,7 @@ use Rattle.lk_model_laws.proofs.WholeExploreLaws.{placed_field}
 
 -- ---- what has no number of a fault
 
-truth_given : (nodes : ℕ) (is_truth : Bool) → condition_number nodes is_truth ≡ None → is_truth ≡ true
+pub truth_given : (nodes : ℕ) (is_truth : Bool) → condition_number nodes is_truth ≡ None → is_truth ≡ true
 truth_given nodes is_truth h = of_over (is_over nodes) is_truth h
   where
     of_over : (over t : Bool) → (if over then Some N15 else if t then None else Some E3) ≡ None → t ≡ true

@@ -1,1 +1,4 @@
 pub mod Typed
+pub mod Named
+pub mod Spelled
+pub mod Conditions

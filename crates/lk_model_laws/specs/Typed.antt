@@ -1,19 +1,31 @@
 -- The fields of a model whose kinds depend on all that stands in their expressions. (Looker, LookML reference: dimension_group, measure types)
-use Rattle.std.specs.Prelude.{Bool, true, false, Some, None, is_none}
+use Rattle.std.specs.Prelude.{Bool, true, false, not, ◌||◌, Some, None, is_none}
+use Rattle.std.specs.List.{list_all}
 use Rattle.lk_objects.specs.declared.code.Code.{Code}
 use Rattle.lk_objects.specs.declared.code.Code.TheVariants as code
 use Rattle.lk_objects.specs.declared.field.FieldSort.{FieldSort}
 use Rattle.lk_objects.specs.declared.field.FieldSort.TheVariants as sort
+use Rattle.lk_types.specs.declared.explore.Explore.{Explore}
+use Rattle.lk_types.specs.declared.explore.Field.{Field}
 use Rattle.lk_types.specs.declared.explore.Op.{Op}
 use Rattle.lk_types.specs.declared.explore.Op.TheVariants as op
 use Rattle.lk_types.specs.declared.explore.Shape.{Shape}
 use Rattle.lk_types.specs.declared.explore.Shape.TheVariants as shape
 use Rattle.lk_types.specs.declared.schema.Frame.TheVariants as frame
+use Rattle.lk_semantics.specs.Resolved.{is_time_kind}
 
 -- a timeframe that leaves the time as it is, and so has its kind
 abbrev pub is_raw : Shape → Bool
 is_raw (shape.Frame group frame.Raw) = true
 is_raw s = false
+
+-- where a field is a raw time, it is a day or a moment
+abbrev pub is_time_if_raw : Field → Bool
+is_time_if_raw f = not (is_raw f.shape) || is_time_kind f.kind
+
+-- each raw time of an explore is one
+abbrev pub has_raw_times : Explore → Bool
+has_raw_times x = list_all is_time_if_raw x.fields
 
 -- an extreme, which has the kind of its values, and a calculation
 abbrev pub is_open : Op → Bool

@@ -9,10 +9,13 @@ ghost use Rattle.lk_merge.specs.declared.project.Merged.{Merged};
 ghost use Rattle.lk_schema.specs.Schemas.{schema_of};
 ghost use Rattle.lk_semantics.specs.Joins.{numbers_below};
 ghost use Rattle.lk_semantics.specs.Reading.{explore_datagroups, leaves_of, reads_itself};
-ghost use Rattle.lk_semantics.specs.Resolved.{HasGroupsOfOnePart, are_one, has_exact_keys, has_grounded_measures, has_part_for_each_join, has_tiers, has_typed_key, has_whole_forms, is_fixed_derived, is_fixed_rollup, is_none_or_typed, is_numbered, is_typed_field, is_typed_measure, may_be_derived, names_numbers};
+ghost use Rattle.lk_semantics.specs.Resolved.{HasGroupsOfOnePart, IsResolved, are_one, has_exact_keys, has_grounded_measures, has_part_for_each_join, has_tiers, has_typed_filters, has_typed_key, has_typed_sources, has_whole_forms, is_fixed_derived, is_fixed_rollup, is_none_or_typed, is_numbered, is_typed_field, is_typed_join, is_typed_measure, may_be_derived, names_numbers};
 ghost use Rattle.lk_semantics.specs.Rollups.{may_be_rolled_up};
 ghost use Rattle.lk_resolve.specs.Resolving.{HasModel};
-ghost use Rattle.lk_model_laws.specs.Typed.{has_code, is_open, is_raw};
+ghost use Rattle.lk_model_laws.specs.Conditions.{has_condition, is_free};
+ghost use Rattle.lk_model_laws.specs.Named.{has_own_names};
+ghost use Rattle.lk_model_laws.specs.Spelled.{are_spelled};
+ghost use Rattle.lk_model_laws.specs.Typed.{has_code, has_raw_times, is_open, is_raw};
 
 /// The explores of a model that effective objects give without a fault have at most 31 joins, and one view more than joins.
 /// A law: it computes nothing. (lookd)
@@ -113,4 +116,49 @@ pub fn stored_queries_are_fixed()
         → list_all (λ x. list_all (is_fixed_rollup x) x.rollups) model.explores ≡ true }
     ensures derived { (schema : Schema) (merged : Merged) (model : Model) → HasModel schema merged (Ok model)
         → list_all (is_fixed_derived model) model.derived ≡ true }
+{}
+
+/// Each filter of such a model is a filter of the kind of the dimension that it is on, where the views of each explore have names
+/// of their own without a dot, and each raw time is a day or a moment. Without derived tables the latter is so where each field
+/// that is declared has the code that its type takes. A law: it computes nothing. (Looker, LookML reference: filters,
+/// always_filter, aggregate_table, derived_table)
+pub fn filters_are_of_their_fields()
+    ensures explores { (schema : Schema) (merged : Merged) (model : Model) → HasModel schema merged (Ok model)
+        → list_all has_own_names model.explores ≡ true → list_all has_raw_times model.explores ≡ true
+        → list_all has_typed_filters model.explores ≡ true }
+    ensures derived { (schema : Schema) (merged : Merged) (model : Model) → HasModel schema merged (Ok model)
+        → list_all has_own_names model.explores ≡ true → list_all has_raw_times model.explores ≡ true
+        → list_all (has_typed_sources model) model.derived ≡ true }
+    ensures times { (schema : Schema) (merged : Merged) (model : Model) (h : HasModel schema merged (Ok model)) → model.derived ≡ []
+        → AllByRecursion (λ v. AllByRecursion (λ f. has_code f.sort f.sql ≡ true) v.fields) h.declared.views
+        → list_all has_raw_times model.explores ≡ true }
+{}
+
+/// In such a model without derived tables a cross join has no condition, and that of each other join is yes or no, if it has one.
+/// Each has one where each join that is declared has an expression or a key as its condition. A law: it computes nothing. (Looker,
+/// LookML reference: sql_on, foreign_key)
+pub fn joins_have_their_conditions()
+    ensures joins { (schema : Schema) (merged : Merged) (model : Model) → HasModel schema merged (Ok model) → model.derived ≡ []
+        → list_all (λ x. list_all (λ j. is_free j || is_typed_join (leaves_of model x) j) x.joins) model.explores ≡ true }
+    ensures conditions { (schema : Schema) (merged : Merged) (model : Model) (h : HasModel schema merged (Ok model)) → model.derived ≡ []
+        → AllByRecursion (λ x. AllByRecursion (λ j. has_condition j ≡ true) x.joins) h.declared.explores
+        → list_all (λ x. list_all (is_typed_join (leaves_of model x)) x.joins) model.explores ≡ true }
+{}
+
+/// Over effective objects that texts spell, the fields of such a model have the codes that their types take, its joins have their
+/// conditions, and the views of each of its explores have names of their own. A law: it computes nothing. (lookd)
+pub fn spelled_objects_suffice()
+    ensures codes { (schema : Schema) (merged : Merged) (model : Model) (h : HasModel schema merged (Ok model)) → are_spelled merged ≡ true
+        → AllByRecursion (λ v. AllByRecursion (λ f. has_code f.sort f.sql ≡ true) v.fields) h.declared.views }
+    ensures conditions { (schema : Schema) (merged : Merged) (model : Model) (h : HasModel schema merged (Ok model)) → are_spelled merged ≡ true
+        → AllByRecursion (λ x. AllByRecursion (λ j. has_condition j ≡ true) x.joins) h.declared.explores }
+    ensures names { (schema : Schema) (merged : Merged) (model : Model) → HasModel schema merged (Ok model) → are_spelled merged ≡ true
+        → list_all has_own_names model.explores ≡ true }
+{}
+
+/// Over effective objects that texts spell and a schema that is read from a text, such a model without derived tables is resolved.
+/// A law: it computes nothing. (lookd)
+pub fn models_are_resolved()
+    ensures { (text : List ℕ) (schema : Schema) (merged : Merged) (model : Model) → schema_of text ≡ Ok schema
+        → HasModel schema merged (Ok model) → are_spelled merged ≡ true → model.derived ≡ [] → IsResolved model }
 {}

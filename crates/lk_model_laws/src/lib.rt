@@ -5,6 +5,7 @@ mod laws;
 
 pub use laws::{
     expressions_are_whole, expressions_have_their_kinds, fields_have_their_kinds,
-    joins_are_counted, keys_are_exact, measures_are_grounded, measures_may_be_stored,
-    numbers_are_of_something, stored_queries_are_fixed, tiers_ascend, timeframes_are_of_one_group,
+    filters_are_of_their_fields, joins_are_counted, joins_have_their_conditions, keys_are_exact,
+    measures_are_grounded, measures_may_be_stored, models_are_resolved, numbers_are_of_something,
+    spelled_objects_suffice, stored_queries_are_fixed, tiers_ascend, timeframes_are_of_one_group,
 };

@@ -1,0 +1,6 @@
+pub mod SpelledFileLaws
+pub mod GatheredLaws
+pub mod MergedItemLaws
+pub mod MergedJoinLaws
+pub mod MergedObjectLaws
+pub mod LoadedLaws
