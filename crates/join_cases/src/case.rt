@@ -1,9 +1,15 @@
+ghost use Rattle.std.specs.Prelude.{◌≡◌, ◌<◌, ◌+◌, length, true};
+ghost use Rattle.lk_types.specs.Dates.{are_literals_dated};
+ghost use Rattle.lk_semantics.specs.DatedRows.{are_joins_dated};
+ghost use Rattle.lk_exec.specs.Plans.{explore_of};
+
 use crate::explore::explore_of;
 use crate::plan::{model_of, plan_of};
 use crate::shown::Shown;
 use crate::tables::sources_of;
 use case_lines::CaseFault;
 use lk_exec::{ExecFault, visible};
+use lk_types::{Model, Plan};
 use lk_val::Text;
 use std::alloc::Global;
 
@@ -26,12 +32,27 @@ fn cap_of(word: &str) -> Result<Option<u64>, CaseFault> {
 }
 
 fn answer(alloc: Global, joins: &str, cap: Option<u64>, tables: &str) -> Result<Text, CaseFault> {
-    let sources = sources_of(alloc, tables)?;
     let explore = explore_of(alloc, joins, tables.split('|').count())?;
     let plan = plan_of(alloc, explore.joins.len())?;
     let model = model_of(alloc, explore)?;
+    answer_over(alloc, &model, &plan, cap, tables)
+}
+
+fn answer_over(
+    alloc: Global,
+    model: &Model,
+    plan: &Plan,
+    cap: Option<u64>,
+    tables: &str,
+) -> Result<Text, CaseFault>
+    requires explore { plan.now.bound.explore < length model.now.explores }
+    requires parts { length (explore_of model.now plan.now).parts ≡ length (explore_of model.now plan.now).joins + 1 }
+    requires conditions { are_joins_dated (explore_of model.now plan.now) ≡ true }
+    requires literals { are_literals_dated plan.now.visible ≡ true }
+{
+    let sources = sources_of(alloc, tables)?;
     let mut shown = Shown::new(alloc);
-    match visible(alloc, &model, &plan, &sources, cap, &mut shown) {
+    match visible(alloc, model, plan, &sources, cap, &mut shown) {
         Ok(count) => counted(alloc, count, &shown.into_text(alloc)?),
         Err(ExecFault::Many) => Ok(Text::from_str(alloc, "many")?),
         Err(ExecFault::NoMemory) => Err(CaseFault::NoMemory),

@@ -1,4 +1,4 @@
-ghost use Rattle.std.specs.Prelude.{◌≡◌, [], IfOk, true};
+ghost use Rattle.std.specs.Prelude.{◌≡◌, [], IfOk, IfSome, true};
 ghost use Rattle.std.specs.List.{AllPass, list_all};
 ghost use Rattle.lk_types.specs.Dates.{is_dated};
 ghost use Rattle.lk_semantics.specs.DatedRows.{are_rows_dated, are_sources_dated};
@@ -82,12 +82,19 @@ fn value_of(alloc: Global, word: &str) -> Result<Value, CaseFault>
     if let Ok(number) = Num::read(word.as_bytes()) {
         return Ok(Value::Num(number));
     }
-    cells_are_of_their_kind();
-    if let Some(value) = read_cell(alloc, Kind::Day, word.as_bytes())? {
-        return Ok(value);
+    if let Some(day) = cell_of(alloc, Kind::Day, word)? {
+        return Ok(day);
     }
-    match read_cell(alloc, Kind::Moment, word.as_bytes())? {
-        Some(value) => Ok(value),
+    match cell_of(alloc, Kind::Moment, word)? {
+        Some(moment) => Ok(moment),
         None => Ok(Value::Text(Text::from_str(alloc, word)?)),
     }
+}
+
+// The value that a word reads as, as a cell of the kind.
+fn cell_of(alloc: Global, kind: Kind, word: &str) -> Result<Option<Value>, CaseFault>
+    ensures { IfOk result (λ value. IfSome value (λ v. is_dated v ≡ true)) }
+{
+    cells_are_of_their_kind();
+    Ok(read_cell(alloc, kind, word.as_bytes())?)
 }

@@ -1,14 +1,16 @@
-ghost use Rattle.std.specs.Prelude.{◌≡◌, IfOk, length};
+ghost use Rattle.std.specs.Prelude.{◌≡◌, IfOk, codes, length};
 ghost use Rattle.std.specs.List.{filter, flat_map, fold};
 ghost use Rattle.lk_params.specs.Findings.{soonest, sooner};
 ghost use Rattle.lk_params.specs.Parameters.{items_of};
+ghost use Rattle.lk_explore.specs.ExploreFilters.{AreExploreFilters, is_filter};
+ghost use Rattle.lk_explore.specs.Values.{words_at};
 ghost use Rattle.lk_explore.specs.Explores.{AreJoins, AreRollups, IsExplore, count_findings, explore_findings, is_wrong_value, joins_in, rollups_in, value_findings};
 
 use crate::filters::read_explore_filters;
 use crate::join::read_join;
 use crate::rollup::read_rollup;
 use crate::values::{add_wrong_at, are_no_words, is_no_text, view_or, words_at};
-use lk_objects::{AggregateTable, DeclaredExplore, DeclaredJoin};
+use lk_objects::{AggregateTable, DeclaredExplore, DeclaredJoin, ExploreFilter};
 use lk_params::{
     Finding, Findings, Number, Order, Owner, add_if, find_unknown, parameters_of, scalar,
 };
@@ -25,15 +27,52 @@ pub fn read_explore(alloc: Global, name: &Text, tree: &Tree) -> Result<DeclaredE
     ensures { IfOk result (IsExplore name.now (items_of tree.now)) }
 {
     let items = parameters_of(tree);
+    let joined = read_joined(alloc, items)?;
+    let asked = read_asked(alloc, name.as_str(), items)?;
+    let base = view_or(alloc, name.as_str(), items)?;
+    let first = first_of_explore(alloc, name.as_str(), items)?;
+    let name = name.copy(alloc)?;
     Ok(DeclaredExplore {
-        name: name.copy(alloc)?,
-        base: view_or(alloc, name.as_str(), items)?,
-        joins: read_joins(alloc, items)?,
-        always_join: words_at(alloc, "always_join", items)?,
-        filters: read_explore_filters(alloc, name.as_str(), items)?,
-        rollups: read_rollups(alloc, items)?,
-        first: first_of_explore(alloc, name.as_str(), items)?,
+        name,
+        base,
+        joins: joined.joins,
+        always_join: joined.always_join,
+        filters: asked.filters,
+        rollups: asked.rollups,
+        first,
     })
+}
+
+// The joins of an explore, and the names of those that each query has.
+#[derive(Drop)]
+struct Joined {
+    joins: Items<DeclaredJoin>,
+    always_join: Items<Text>,
+}
+
+fn read_joined(alloc: Global, items: &[Item]) -> Result<Joined, NoMemory>
+    ensures joins { IfOk result (λ joined. AreJoins (joins_in items.now) joined.joins) }
+    ensures always { IfOk result (λ joined. joined.always_join ≡ words_at (codes "always_join") items.now) }
+{
+    let joins = read_joins(alloc, items)?;
+    let always_join = words_at(alloc, "always_join", items)?;
+    Ok(Joined { joins, always_join })
+}
+
+// The filters of an explore, and its aggregate tables.
+#[derive(Drop)]
+struct Asked {
+    filters: Items<ExploreFilter>,
+    rollups: Items<AggregateTable>,
+}
+
+fn read_asked(alloc: Global, name: &str, items: &[Item]) -> Result<Asked, NoMemory>
+    ensures filters { IfOk result (λ asked. AreExploreFilters name.now (filter is_filter items.now) asked.filters) }
+    ensures rollups { IfOk result (λ asked. AreRollups (rollups_in items.now) asked.rollups) }
+{
+    let filters = read_explore_filters(alloc, name, items)?;
+    let rollups = read_rollups(alloc, items)?;
+    Ok(Asked { filters, rollups })
 }
 
 fn read_joins(alloc: Global, items: &[Item]) -> Result<Items<DeclaredJoin>, NoMemory>

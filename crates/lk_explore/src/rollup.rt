@@ -1,14 +1,15 @@
-ghost use Rattle.std.specs.Prelude.{◌≡◌, ◌+◌, ◌++◌, ◌∷◌, [], IfOk, List, length, map};
+ghost use Rattle.std.specs.Prelude.{◌≡◌, ◌+◌, ◌++◌, ◌∷◌, [], IfOk, List, codes, length, map};
 ghost use Rattle.lk_written.specs.Blocks.{block_items, block_name};
 ghost use Rattle.lk_objects.specs.declared.view.Entry.TheVariants as entry;
 ghost use Rattle.lk_read.specs.declared.tree.Item.{Item};
 ghost use Rattle.lk_written.specs.Values.{filters_at};
-ghost use Rattle.lk_explore.specs.Values.{words_in};
+ghost use Rattle.lk_explore.specs.Values.{words_at, words_in};
+ghost use Rattle.lk_written.specs.ReadFilters.{AreFilters};
 ghost use Rattle.lk_explore.specs.Rollups.{IsRollup, entries_at, entries_in};
 
 use crate::rollup_findings::first_of_rollup;
 use crate::values::{block_at, words_at, words_in};
-use lk_objects::{AggregateTable, Entry};
+use lk_objects::{AggregateTable, Entry, FilterText};
 use lk_read::{Item, Node};
 use lk_val::{Items, NoMemory, Text};
 use lk_written::{
@@ -23,16 +24,46 @@ pub(crate) fn read_rollup(alloc: Global, item: &Item) -> Result<AggregateTable, 
 {
     let name = block_name(item);
     let items = block_items(item);
-    let query = block_at("query", items);
+    let query = read_query(alloc, block_at("query", items))?;
     let materialization = block_at("materialization", items);
+    let datagroup = copied_text(alloc, text_at("datagroup_trigger", materialization))?;
+    let first = first_of_rollup(alloc, name, items)?;
+    let name = Text::from_str(alloc, name)?;
     Ok(AggregateTable {
-        name: Text::from_str(alloc, name)?,
-        dimensions: words_at(alloc, "dimensions", query)?,
-        measures: words_at(alloc, "measures", query)?,
-        filters: read_filters(alloc, query)?,
-        datagroup: copied_text(alloc, text_at("datagroup_trigger", materialization))?,
-        entries: entries_in(alloc, query)?,
-        first: first_of_rollup(alloc, name, items)?,
+        name,
+        dimensions: query.dimensions,
+        measures: query.measures,
+        filters: query.filters,
+        datagroup,
+        entries: query.entries,
+        first,
+    })
+}
+
+// What the query of an aggregate table has.
+#[derive(Drop)]
+struct Query {
+    dimensions: Items<Text>,
+    measures: Items<Text>,
+    filters: Items<FilterText>,
+    entries: Items<Entry>,
+}
+
+fn read_query(alloc: Global, query: &[Item]) -> Result<Query, NoMemory>
+    ensures dimensions { IfOk result (λ read. read.dimensions ≡ words_at (codes "dimensions") query.now) }
+    ensures measures { IfOk result (λ read. read.measures ≡ words_at (codes "measures") query.now) }
+    ensures filters { IfOk result (λ read. AreFilters (filters_at query.now) read.filters) }
+    ensures entries { IfOk result (λ read. read.entries ≡ entries_in query.now) }
+{
+    let dimensions = words_at(alloc, "dimensions", query)?;
+    let measures = words_at(alloc, "measures", query)?;
+    let filters = read_filters(alloc, query)?;
+    let entries = entries_in(alloc, query)?;
+    Ok(Query {
+        dimensions,
+        measures,
+        filters,
+        entries,
     })
 }
 

@@ -1,7 +1,8 @@
 ghost use Rattle.std.specs.Prelude.{◌≡◌, ◌++◌, Some, IfOk, flat_map, map, option_map};
 ghost use Rattle.std.specs.List.{position};
 ghost use Rattle.lk_val.specs.Texts.{is_same_text};
-ghost use Rattle.lk_resolved.specs.Explores.{access_in, access_with, always_in, datagroup_number, explore_of, first_where, measure_numbers, rollup_with, where_with};
+ghost use Rattle.lk_resolved.specs.Explores.{access_in, access_with, always_in, datagroup_number, explore_of, first_where, joins_from, joins_named, measure_numbers, parts_from, rollup_with, where_with};
+ghost use Rattle.lk_resolved.specs.Fields.{field_with, measure_at};
 ghost use Rattle.lk_resolved.specs.Numbers.{AreNamed};
 ghost use Rattle.lk_resolved.specs.Told.{IsModelTold};
 
@@ -16,7 +17,7 @@ use crate::numbers::as_number;
 use crate::parts::parts;
 use lk_fields::Writer;
 use lk_objects::{AccessFilter, AggregateTable, Code, DeclaredExplore, ExploreFilter};
-use lk_types::{Explore, Expr, Filter, Rollup};
+use lk_types::{Explore, Expr, Field, Filter, Join, Measure, Part, Rollup};
 use lk_val::{Items, NoMemory, Text};
 use std::alloc::Global;
 
@@ -34,17 +35,107 @@ pub fn resolved_explore(
         ≡ explore_of model.now.fields.now.schema.now model.now.fields.now.views.now model.now.fields.now.scope.now model.now.fields.now.columns.now (datagroup_number datagroups.now) x.now) }
 {
     let named = Named::of(alloc, model.fields)?;
+    let views = resolved_views(alloc, model, x)?;
+    let fields = fields_and_measures(alloc, model, &named)?;
+    let limits = resolved_limits(alloc, model, &named, x.filters.as_slice())?;
+    let rollups = rollups(alloc, model, &named, datagroups, x.rollups.as_slice())?;
+    let name = x.name.copy(alloc)?;
     Ok(Explore {
-        name: x.name.copy(alloc)?,
-        parts: parts(alloc, model)?,
-        joins: joins(alloc, model, x.joins.as_slice())?,
-        fields: fields(alloc, model, &named)?,
-        measures: measures(alloc, model, &named)?,
-        always_join: joins_named(alloc, x.joins.as_slice(), x.always_join.as_slice())?,
-        always: always(alloc, model, &named, x.filters.as_slice())?,
-        always_where: where_with(alloc, model, first_where(x.filters.as_slice()))?,
-        access: access(alloc, model, &named, x.filters.as_slice())?,
-        rollups: rollups(alloc, model, &named, datagroups, x.rollups.as_slice())?,
+        name,
+        parts: views.parts,
+        joins: views.joins,
+        fields: fields.fields,
+        measures: fields.measures,
+        always_join: views.always_join,
+        always: limits.always,
+        always_where: limits.always_where,
+        access: limits.access,
+        rollups,
+    })
+}
+
+// The views of an explore and its joins.
+#[derive(Drop)]
+struct ViewParts {
+    parts: Items<Part>,
+    joins: Items<Join>,
+    always_join: Items<u32>,
+}
+
+fn resolved_views(
+    alloc: Global,
+    model: &ModelFields,
+    x: &DeclaredExplore,
+) -> Result<ViewParts, NoMemory>
+    requires told { IsModelTold model.now }
+    ensures parts { IfOk result (λ views. views.parts
+        ≡ parts_from model.now.fields.now.schema.now model.now.fields.now.views.now model.now.fields.now.scope.now model.now.fields.now.columns.now 0 model.now.fields.now.scope.now.parts) }
+    ensures joins { IfOk result (λ views. views.joins
+        ≡ joins_from model.now.fields.now.schema.now model.now.fields.now.views.now model.now.fields.now.scope.now model.now.fields.now.columns.now x.now.joins 1 x.now.joins) }
+    ensures always { IfOk result (λ views. views.always_join ≡ joins_named x.now.joins x.now.always_join) }
+{
+    let parts = parts(alloc, model)?;
+    let joins = joins(alloc, model, x.joins.as_slice())?;
+    let always_join = joins_named(alloc, x.joins.as_slice(), x.always_join.as_slice())?;
+    Ok(ViewParts {
+        parts,
+        joins,
+        always_join,
+    })
+}
+
+// The dimensions and the measures of an explore.
+#[derive(Drop)]
+struct FieldLists {
+    fields: Items<Field>,
+    measures: Items<Measure>,
+}
+
+fn fields_and_measures(
+    alloc: Global,
+    model: &ModelFields,
+    named: &Named,
+) -> Result<FieldLists, NoMemory>
+    requires told { IsModelTold model.now }
+    requires named { AreNamed model.now.fields.now.views.now model.now.fields.now.scope.now named.now }
+    ensures fields { IfOk result (λ made. made.fields
+        ≡ map (field_with model.now.fields.now.schema.now model.now.fields.now.views.now model.now.fields.now.scope.now model.now.fields.now.columns.now) named.now.dimensions) }
+    ensures measures { IfOk result (λ made. made.measures
+        ≡ flat_map (measure_at model.now.fields.now.schema.now model.now.fields.now.views.now model.now.fields.now.scope.now model.now.fields.now.columns.now) named.now.measures) }
+{
+    let fields = fields(alloc, model, named)?;
+    let measures = measures(alloc, model, named)?;
+    Ok(FieldLists { fields, measures })
+}
+
+// What limits the rows of an explore.
+#[derive(Drop)]
+struct RowLimits {
+    always: Items<(u32, Filter)>,
+    always_where: Option<Expr>,
+    access: Items<(u32, Text)>,
+}
+
+fn resolved_limits(
+    alloc: Global,
+    model: &ModelFields,
+    named: &Named,
+    filters: &[ExploreFilter],
+) -> Result<RowLimits, NoMemory>
+    requires told { IsModelTold model.now }
+    requires named { AreNamed model.now.fields.now.views.now model.now.fields.now.scope.now named.now }
+    ensures always { IfOk result (λ limits. limits.always ≡ flat_map (always_in model.now.fields.now.views.now model.now.fields.now.scope.now) filters.now) }
+    ensures condition { IfOk result (λ limits. limits.always_where
+        ≡ where_with model.now.fields.now.schema.now model.now.fields.now.views.now model.now.fields.now.scope.now model.now.fields.now.columns.now (first_where filters.now)) }
+    ensures access { IfOk result (λ limits. limits.access ≡ flat_map (access_in model.now.fields.now.views.now model.now.fields.now.scope.now) filters.now) }
+{
+    let always = always(alloc, model, named, filters)?;
+    let always_where = where_with(alloc, model, first_where(filters))?;
+    let access = access(alloc, model, named, filters)?;
+    Ok(RowLimits {
+        always,
+        always_where,
+        access,
     })
 }
 

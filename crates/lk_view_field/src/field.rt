@@ -1,4 +1,4 @@
-ghost use Rattle.std.specs.Prelude.{◌≡◌, ◌++◌, IfOk, codes, option_map};
+ghost use Rattle.std.specs.Prelude.{◌≡◌, ◌++◌, IfOk, codes, false, option_map};
 ghost use Rattle.std.specs.List.{fold};
 ghost use Rattle.lk_params.specs.Findings.{soonest, sooner};
 ghost use Rattle.lk_written.specs.Blocks.{block_items, block_name};
@@ -31,19 +31,59 @@ pub fn read_field(alloc: Global, view: &str, item: &Item) -> Result<DeclaredFiel
     let name = block_name(item);
     let items = block_items(item);
     let sort = sort_of(item.name.as_str(), items);
-    let sql = read_sql(alloc, sort, name, items)?;
-    let key = read_code(alloc, false, key_text(sort, items))?;
-    let first = first_of_field(alloc, view, name, items, sort, &sql, &key)?;
+    let codes = read_codes(alloc, sort, name, items)?;
+    let lists = read_lists(alloc, sort, items)?;
+    let first = first_of_field(alloc, view, name, items, sort, &codes.sql, &codes.key)?;
+    let name = Text::from_str(alloc, name)?;
     Ok(DeclaredField {
-        name: Text::from_str(alloc, name)?,
+        name,
         sort,
-        sql,
-        key,
-        filters: filters_of(alloc, sort, items)?,
-        frames: frames_with(alloc, sort, items)?,
-        tiers: tiers_with(alloc, sort, items)?,
+        sql: codes.sql,
+        key: codes.key,
+        filters: lists.filters,
+        frames: lists.frames,
+        tiers: lists.tiers,
         is_key: is_key_with(sort, items),
         first,
+    })
+}
+
+// The expressions of a field.
+#[derive(Drop)]
+struct Codes {
+    sql: Code,
+    key: Code,
+}
+
+fn read_codes(alloc: Global, sort: FieldSort, name: &str, items: &[Item]) -> Result<Codes, NoMemory>
+    ensures sql { IfOk result (λ codes. IsCode (is_over_measures sort) (sql_text sort name.now items.now) codes.sql) }
+    ensures key { IfOk result (λ codes. IsCode false (key_text sort items.now) codes.key) }
+{
+    let sql = read_sql(alloc, sort, name, items)?;
+    let key = read_code(alloc, false, key_text(sort, items))?;
+    Ok(Codes { sql, key })
+}
+
+// The lists of a field.
+#[derive(Drop)]
+struct Lists {
+    filters: Items<FilterText>,
+    frames: Items<Frame>,
+    tiers: Items<i64>,
+}
+
+fn read_lists(alloc: Global, sort: FieldSort, items: &[Item]) -> Result<Lists, NoMemory>
+    ensures filters { IfOk result (λ lists. AreFilters (filters_of sort items.now) lists.filters) }
+    ensures frames { IfOk result (λ lists. lists.frames ≡ frames_with sort items.now) }
+    ensures tiers { IfOk result (λ lists. lists.tiers ≡ tiers_with sort items.now) }
+{
+    let filters = filters_of(alloc, sort, items)?;
+    let frames = frames_with(alloc, sort, items)?;
+    let tiers = tiers_with(alloc, sort, items)?;
+    Ok(Lists {
+        filters,
+        frames,
+        tiers,
     })
 }
 

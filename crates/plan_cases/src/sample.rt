@@ -31,14 +31,10 @@ pub fn model(alloc: Global) -> Result<Model, NoMemory>
 pub fn bound(alloc: Global) -> Result<Bound, NoMemory>
     ensures { IfOk result (λ made. made ≡ bound) }
 {
-    let mut picks = Items::new(alloc);
-    picks.push(Pick::Dim(0))?;
-    let mut joins = Items::new(alloc);
-    joins.push(0)?;
-    let mut access = Items::new(alloc);
-    access.push((0, filter(alloc, europe(alloc)?)?))?;
-    let mut rows = Items::new(alloc);
-    rows.push((1, filter(alloc, Test::Is(Num(50_000)))?))?;
+    let access = only(alloc, (0, filter(alloc, europe(alloc)?)?))?;
+    let rows = only(alloc, (1, filter(alloc, Test::Is(Num(50_000)))?))?;
+    let picks = only(alloc, Pick::Dim(0))?;
+    let joins = only(alloc, 0)?;
     Ok(Bound {
         explore: 0,
         picks,
@@ -51,6 +47,15 @@ pub fn bound(alloc: Global) -> Result<Bound, NoMemory>
         fresh: false,
         csv: false,
     })
+}
+
+// A list of one item.
+fn only<T: Drop>(alloc: Global, item: T) -> Result<Items<T>, NoMemory>
+    ensures { IfOk result (λ made. made ≡ item ∷ []) }
+{
+    let mut items = Items::new(alloc);
+    items.push(item)?;
+    Ok(items)
 }
 
 fn europe(alloc: Global) -> Result<Test, NoMemory>

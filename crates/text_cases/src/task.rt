@@ -38,11 +38,12 @@ impl<'a> Task<'a> {
     }
 
     fn named(field: &'a str) -> Result<Task<'a>, CaseFault> {
-        match field.split_once(" ") {
-            Some(("made", tree)) => Ok(Task::Made(tree)),
-            Some(("form", form)) => Ok(Task::Form(form)),
-            Some(("brackets", depth)) => {
-                let depth = depth.parse::<usize>().or(Err(CaseFault::NoSuchCase))?;
+        let (task, name) = field.split_once(" ").ok_or(CaseFault::NoSuchCase)?;
+        match task {
+            "made" => Ok(Task::Made(name)),
+            "form" => Ok(Task::Form(name)),
+            "brackets" => {
+                let depth = name.parse::<usize>().or(Err(CaseFault::NoSuchCase))?;
                 Ok(Task::Brackets(depth))
             }
             _ => Err(CaseFault::NoSuchCase),

@@ -10,11 +10,18 @@ pub fn compute(alloc: Global, text: &str) -> Result<Text, Wrong> {
     let words: Vec<&str> = text.split(' ').collect(alloc)?;
     match words.as_slice() {
         [a] => show(alloc, Some(fraction_of(a)?)),
-        ["minus", a] => show(alloc, fraction_of(a)?.neg()),
-        [a, "plus", b] => show(alloc, fraction_of(a)?.add(fraction_of(b)?)),
-        [a, "less", b] => show(alloc, fraction_of(a)?.sub(fraction_of(b)?)),
-        [a, "times", b] => show(alloc, fraction_of(a)?.mul(fraction_of(b)?)),
-        [a, "over", b] => show(alloc, fraction_of(a)?.div(fraction_of(b)?)),
+        [sign, a] if *sign == "minus" => show(alloc, fraction_of(a)?.neg()),
+        [a, sign, b] => show(alloc, result_of(fraction_of(a)?, sign, fraction_of(b)?)?),
+        _ => Err(Wrong::Case),
+    }
+}
+
+fn result_of(a: Frac, sign: &str, b: Frac) -> Result<Option<Frac>, Wrong> {
+    match sign {
+        "plus" => Ok(a.add(b)),
+        "less" => Ok(a.sub(b)),
+        "times" => Ok(a.mul(b)),
+        "over" => Ok(a.div(b)),
         _ => Err(Wrong::Case),
     }
 }

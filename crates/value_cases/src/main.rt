@@ -47,28 +47,51 @@ fn answer_lines(rt: &HostRuntime) -> io::Result<()> {
 // What a line comes to, by its first word.
 fn answer(alloc: Global, line: &str) -> Result<Text, Wrong> {
     let words = words_of(alloc, line)?;
-    match words.as_slice() {
-        ["number", text] => numbers::read(alloc, text),
-        ["count", text] => numbers::print(alloc, text),
-        ["arithmetic", text] => numbers::compute(alloc, text),
-        ["fraction", text] => fractions::compute(alloc, text),
-        ["rounded", text] => fractions::round(alloc, text),
-        ["cell", kind, text] => values::read(alloc, kind, text),
-        ["print", shape, cell] => values::print(alloc, shape, cell),
-        ["ascending values", values @ ..] => orders::values(alloc, values),
-        ["ascending cells", cells @ ..] => orders::cells(alloc, cells),
-        ["ascending fractions", fractions @ ..] => orders::fractions(alloc, fractions),
-        ["ascending bytes", bytes @ ..] => orders::bytes(alloc, bytes),
-        ["different", texts @ ..] => texts::differ(alloc, texts),
-        ["among", text, texts @ ..] => texts::is_among(alloc, text, texts),
-        ["utf-8", bytes] => texts::read(alloc, bytes),
-        ["like", pattern, text] => texts::is_like(alloc, pattern, text),
-        ["fault", parts @ ..] => texts::print_fault(alloc, parts),
-        ["timeframe", frame, value] => times::frame(alloc, frame, value),
-        ["coarser", fine, coarse, value] => times::coarsen(alloc, fine, coarse, value),
-        ["in years", value] => times::is_in_years(alloc, value),
-        ["records", text] => records::read(alloc, text),
-        ["record", fields @ ..] => records::write(alloc, fields),
+    let Some((task, words)) = words.split_first() else {
+        return Err(Wrong::Case);
+    };
+    match words {
+        [text] => answer_one(alloc, task, text),
+        [first, second] => answer_two(alloc, task, first, second),
+        words => answer_many(alloc, task, words),
+    }
+}
+
+fn answer_one(alloc: Global, task: &str, text: &str) -> Result<Text, Wrong> {
+    match task {
+        "number" => numbers::read(alloc, text),
+        "count" => numbers::print(alloc, text),
+        "arithmetic" => numbers::compute(alloc, text),
+        "fraction" => fractions::compute(alloc, text),
+        "rounded" => fractions::round(alloc, text),
+        "utf-8" => texts::read(alloc, text),
+        "in years" => times::is_in_years(alloc, text),
+        "records" => records::read(alloc, text),
+        task => answer_many(alloc, task, &[text]),
+    }
+}
+
+fn answer_two(alloc: Global, task: &str, first: &str, second: &str) -> Result<Text, Wrong> {
+    match task {
+        "cell" => values::read(alloc, first, second),
+        "print" => values::print(alloc, first, second),
+        "like" => texts::is_like(alloc, first, second),
+        "timeframe" => times::frame(alloc, first, second),
+        task => answer_many(alloc, task, &[first, second]),
+    }
+}
+
+fn answer_many(alloc: Global, task: &str, words: &[&str]) -> Result<Text, Wrong> {
+    match task {
+        "ascending values" => orders::values(alloc, words),
+        "ascending cells" => orders::cells(alloc, words),
+        "ascending fractions" => orders::fractions(alloc, words),
+        "ascending bytes" => orders::bytes(alloc, words),
+        "different" => texts::differ(alloc, words),
+        "among" => texts::is_among(alloc, words),
+        "fault" => texts::print_fault(alloc, words),
+        "coarser" => times::coarsen(alloc, words),
+        "record" => records::write(alloc, words),
         _ => Err(Wrong::Case),
     }
 }

@@ -23,11 +23,18 @@ pub fn print(alloc: Global, text: &str) -> Result<Text, Wrong> {
 pub fn compute(alloc: Global, text: &str) -> Result<Text, Wrong> {
     let words: Vec<&str> = text.split(' ').collect(alloc)?;
     match words.as_slice() {
-        ["minus", a] => show(alloc, number_of(a)?.neg()),
-        [a, "plus", b] => show(alloc, number_of(a)?.add(number_of(b)?)),
-        [a, "less", b] => show(alloc, number_of(a)?.sub(number_of(b)?)),
-        [a, "times", b] => show(alloc, number_of(a)?.mul(number_of(b)?)),
-        [a, "over", b] => show(alloc, number_of(a)?.div(number_of(b)?)),
+        [sign, a] if *sign == "minus" => show(alloc, number_of(a)?.neg()),
+        [a, sign, b] => show(alloc, result_of(number_of(a)?, sign, number_of(b)?)?),
+        _ => Err(Wrong::Case),
+    }
+}
+
+fn result_of(a: Num, sign: &str, b: Num) -> Result<Option<Num>, Wrong> {
+    match sign {
+        "plus" => Ok(a.add(b)),
+        "less" => Ok(a.sub(b)),
+        "times" => Ok(a.mul(b)),
+        "over" => Ok(a.div(b)),
         _ => Err(Wrong::Case),
     }
 }

@@ -15,13 +15,14 @@ pub fn differ(alloc: Global, words: &[&str]) -> Result<Text, Wrong> {
     }
 }
 
-/// Whether the text is one of the others.
-pub fn is_among(alloc: Global, word: &str, words: &[&str]) -> Result<Text, Wrong> {
+/// Whether the first text is one of the others.
+pub fn is_among(alloc: Global, words: &[&str]) -> Result<Text, Wrong> {
+    let Some((word, words)) = words.split_first() else {
+        return Err(Wrong::Case);
+    };
     let texts = texts_of(alloc, words)?;
-    yes_or_no(
-        alloc,
-        lk_val::is_among(&Text::from_str(alloc, word)?, texts.as_slice()),
-    )
+    let text = Text::from_str(alloc, word)?;
+    yes_or_no(alloc, lk_val::is_among(&text, texts.as_slice()))
 }
 
 fn texts_of(alloc: Global, words: &[&str]) -> Result<Items<Text>, Wrong> {

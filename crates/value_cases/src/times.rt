@@ -26,8 +26,11 @@ pub fn frame(alloc: Global, frame: &str, word: &str) -> Result<Text, Wrong> {
     }
 }
 
-/// A timeframe of a value, brought to a coarser one; `T1` where that isn't had from it.
-pub fn coarsen(alloc: Global, fine: &str, coarse: &str, word: &str) -> Result<Text, Wrong> {
+/// A timeframe of a value, brought to a coarser one, by the names of both and the value; `T1` where that isn't had from it.
+pub fn coarsen(alloc: Global, words: &[&str]) -> Result<Text, Wrong> {
+    let [fine, coarse, word] = words else {
+        return Err(Wrong::Case);
+    };
     let value = value_of(alloc, word)?;
     let fine = frame_of(fine)?;
     let coarse = frame_of(coarse)?;

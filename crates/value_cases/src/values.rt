@@ -25,10 +25,11 @@ pub fn print(alloc: Global, shape: &str, cell: &str) -> Result<Text, Wrong> {
 
 /// The cell that a word writes: `count N`, `sum N` and `fraction N/D` by numbers, or a value.
 pub fn cell_of(alloc: Global, word: &str) -> Result<Cell, Wrong> {
-    match word.split_once(' ').unwrap_or((word, "")) {
-        ("count", text) => Ok(Cell::Count(text.parse::<u64>().or(Err(Wrong::Case))?)),
-        ("sum", text) => Ok(Cell::Sum(text.parse::<i128>().or(Err(Wrong::Case))?)),
-        ("fraction", text) => Ok(Cell::Frac(fraction_of(text)?)),
+    let (kind, text) = word.split_once(' ').unwrap_or((word, ""));
+    match kind {
+        "count" => Ok(Cell::Count(text.parse::<u64>().or(Err(Wrong::Case))?)),
+        "sum" => Ok(Cell::Sum(text.parse::<i128>().or(Err(Wrong::Case))?)),
+        "fraction" => Ok(Cell::Frac(fraction_of(text)?)),
         _ => Ok(Cell::Value(value_of(alloc, word)?)),
     }
 }
@@ -36,14 +37,21 @@ pub fn cell_of(alloc: Global, word: &str) -> Result<Cell, Wrong> {
 /// The value that a word writes: `null`, or a kind and a cell. `day number N` and `moment number N` count from 1970.
 pub fn value_of(alloc: Global, word: &str) -> Result<Value, Wrong> {
     let (kind, cell) = word.split_once(' ').unwrap_or((word, ""));
-    match (kind, cell.strip_prefix("number ")) {
-        ("null", _) => Ok(Value::Null),
-        ("text", _) => Ok(Value::Text(Text::from_str(alloc, cell)?)),
-        ("day", Some(number)) => Ok(Value::Day(number.parse::<i32>().or(Err(Wrong::Case))?)),
-        ("moment", Some(number)) => {
-            Ok(Value::Moment(number.parse::<i64>().or(Err(Wrong::Case))?))
-        }
-        _ => read_cell(alloc, kind_of(kind)?, cell.as_bytes())?.ok_or(Wrong::Case),
+    if let Some(number) = cell.strip_prefix("number ") {
+        return numbered(kind, number);
+    }
+    match kind {
+        "null" => Ok(Value::Null),
+        "text" => Ok(Value::Text(Text::from_str(alloc, cell)?)),
+        kind => read_cell(alloc, kind_of(kind)?, cell.as_bytes())?.ok_or(Wrong::Case),
+    }
+}
+
+fn numbered(kind: &str, number: &str) -> Result<Value, Wrong> {
+    match kind {
+        "day" => Ok(Value::Day(number.parse::<i32>().or(Err(Wrong::Case))?)),
+        "moment" => Ok(Value::Moment(number.parse::<i64>().or(Err(Wrong::Case))?)),
+        _ => Err(Wrong::Case),
     }
 }
 
@@ -60,9 +68,9 @@ fn kind_of(word: &str) -> Result<Kind, Wrong> {
 
 // `plain`, the bounds of a tier as `tier 0 10 20`, or a timeframe.
 fn shape_of(alloc: Global, word: &str) -> Result<Shape, Wrong> {
-    match word.split_once(' ').unwrap_or((word, "")) {
-        ("plain", _) => Ok(Shape::Plain),
-        ("tier", bounds) => Ok(Shape::Tier(bounds_of(alloc, bounds)?)),
+    match word.split_once(' ') {
+        Some((shape, bounds)) if shape == "tier" => Ok(Shape::Tier(bounds_of(alloc, bounds)?)),
+        _ if word == "plain" => Ok(Shape::Plain),
         _ => Ok(Shape::Frame(0, frame_of(word)?)),
     }
 }
