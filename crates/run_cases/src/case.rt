@@ -132,24 +132,49 @@ fn answer_over<F: Files>(
     words: &[&str],
     body: &str,
 ) -> Result<Text, CaseFault> {
-    let outside = &base.outside;
-    let words = texts_of(alloc, words)?;
+    let mut streams = streams_of(alloc, &base.outside, body)?;
+    let ended = run_with(alloc, base, files, words, &mut streams)?;
+    let status = ended.status;
+    base.keeper = Some(ended.keeper);
+    answer_of(alloc, status, &streams.out)
+}
+
+// The input and the output of a run.
+#[derive(Drop)]
+struct Streams {
+    input: MemSource,
+    out: MemSink,
+}
+
+fn streams_of(alloc: Global, outside: &Outside, body: &str) -> Result<Streams, CaseFault> {
+    let out = MemSink::new(alloc, outside.room, calls(alloc, &outside.output)?)?;
+    let input = input_of(alloc, outside, body)?;
+    Ok(Streams { input, out })
+}
+
+fn input_of(alloc: Global, outside: &Outside, body: &str) -> Result<MemSource, CaseFault> {
     let body = outside.padded(alloc, written(alloc, body)?)?;
-    let mut input = MemSource::new(body, calls(alloc, &outside.input)?);
-    let mut out = MemSink::new(alloc, outside.room, calls(alloc, &outside.output)?)?;
-    let keeper = outside.keeper(alloc)?;
-    let ended = run_over(
+    Ok(MemSource::new(body, calls(alloc, &outside.input)?))
+}
+
+fn run_with<F: Files>(
+    alloc: Global,
+    base: &Base,
+    files: &mut F,
+    words: &[&str],
+    streams: &mut Streams,
+) -> Result<Ended, CaseFault> {
+    let words = texts_of(alloc, words)?;
+    let keeper = base.outside.keeper(alloc)?;
+    Ok(run_over(
         alloc,
         base.now,
         words.as_slice(),
         files,
         keeper,
-        &mut input,
-        &mut out,
-    )?;
-    let status = ended.status;
-    base.keeper = Some(ended.keeper);
-    answer_of(alloc, status, &out)
+        &mut streams.input,
+        &mut streams.out,
+    )?)
 }
 
 // The run. It has a function of its own, since its clauses are dear to whoever calls it.
