@@ -12,13 +12,29 @@ use std::alloc::Global;
 /// The plan of the sample's query: its conditions, and for each view whether a join can repeat its rows.
 pub fn plan_line(alloc: Global) -> Result<String, CaseFault> {
     let plan = sample_plan(alloc)?;
-    let mut line = String::from_str(alloc, "visible ")?;
-    line.push_str(printed(alloc, &plan.visible)?.as_str())?;
-    line.push_str(", passing ")?;
-    line.push_str(printed(alloc, &plan.passing)?.as_str())?;
-    line.push_str(", fanned")?;
-    for fanned in plan.fanned.as_slice() {
-        line.push_str(if *fanned { " yes" } else { " no" })?;
+    print_plan(alloc, &plan)
+}
+
+fn print_plan(alloc: Global, plan: &Plan) -> Result<String, CaseFault> {
+    let visible = printed(alloc, &plan.visible)?;
+    let passing = printed(alloc, &plan.passing)?;
+    print_conditions(
+        alloc,
+        visible.as_str(),
+        passing.as_str(),
+        plan.fanned.as_slice(),
+    )
+}
+
+fn print_conditions(
+    alloc: Global,
+    visible: &str,
+    passing: &str,
+    fanned: &[bool],
+) -> Result<String, CaseFault> {
+    let mut line = format!(in alloc; "visible {visible}, passing {passing}, fanned")?;
+    for is_fanned in fanned {
+        line.push_str(if *is_fanned { " yes" } else { " no" })?;
     }
     Ok(line)
 }
