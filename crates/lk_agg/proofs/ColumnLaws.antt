@@ -21,7 +21,7 @@ use Rattle.lk_types.specs.declared.explore.Op.{Op}
 use Rattle.lk_types.specs.declared.explore.Op.TheVariants as op
 use Rattle.lk_agg.specs.declared.columns.Column.TheVariants.{Count, Sum, SumDistinct, Average, AverageDistinct, Different, Least, Greatest}
 use Rattle.lk_agg.specs.Tallies.{Tallied, tally_of, with_amount}
-use Rattle.lk_agg.specs.Columns.{column_of, keyed, placed, with_key, with_key_by, with_place, with_value, with_entry, with_given, with_cells}
+use Rattle.lk_agg.specs.Columns.{column_of, keyed, placed, rows_over, with_key, with_key_by, with_place, with_row, with_value, with_entry, with_given, with_cells}
 use Rattle.lk_agg.specs.Gathering.{columns_at}
 
 -- ---- the lesser and the greater of two values
@@ -79,6 +79,9 @@ tally-push es e =
       | false ↦ sym (tally_last (placed es) e)
     ])
 
+rows-push : (o : Op) (es : List Entry) (e : Entry) → with_row o e.1 (rows_over o es) ≡ rows_over o (es ++ e ∷ [])
+rows-push o es e = λ i. record { pairs = pairs_of-push o es e i; tally = tally-push es e i }
+
 values-push : (es : List Entry) (e : Entry) → values_of_entries (es ++ e ∷ []) ≡ values_of_entries es ++ e.1.value ∷ []
 values-push es e = map-append (λ (x : Entry). x.1.value) es (e ∷ [])
 
@@ -103,11 +106,11 @@ greatest-push (w ∷ vs) v = swapped values_turned v w (greatest_of vs) ∙ ap (
 
 -- what is kept of some entries, with one more, is what is kept of all
 pub with_entry-column_of : (o : Op) (es : List Entry) (e : Entry) → with_entry e (column_of o es) ≡ column_of o (es ++ e ∷ [])
-with_entry-column_of op.Count es e = λ i. Count (pairs_of-push op.Count es e i) (tally-push es e i)
-with_entry-column_of op.Sum es e = λ i. Sum (pairs_of-push op.Sum es e i) (tally-push es e i)
-with_entry-column_of op.SumDistinct es e = λ i. SumDistinct (pairs_of-push op.SumDistinct es e i) (tally-push es e i)
-with_entry-column_of op.Average es e = λ i. Average (pairs_of-push op.Average es e i) (tally-push es e i)
-with_entry-column_of op.AverageDistinct es e = λ i. AverageDistinct (pairs_of-push op.AverageDistinct es e i) (tally-push es e i)
+with_entry-column_of op.Count es e = ap Count (rows-push op.Count es e)
+with_entry-column_of op.Sum es e = ap Sum (rows-push op.Sum es e)
+with_entry-column_of op.SumDistinct es e = ap SumDistinct (rows-push op.SumDistinct es e)
+with_entry-column_of op.Average es e = ap Average (rows-push op.Average es e)
+with_entry-column_of op.AverageDistinct es e = ap AverageDistinct (rows-push op.AverageDistinct es e)
 with_entry-column_of op.CountDistinct es e = ap Different (distinct-push (values_of_entries es) e.1.value ∙ ap distinct_values (sym (values-push es e)))
 with_entry-column_of op.Min es e = ap Least (least-push (values_of_entries es) e.1.value ∙ ap least_of (sym (values-push es e)))
 with_entry-column_of op.Max es e = ap Greatest (greatest-push (values_of_entries es) e.1.value ∙ ap greatest_of (sym (values-push es e)))

@@ -10,6 +10,7 @@ use Rattle.lk_types.specs.declared.answer.Pair.{Pair}
 use Rattle.lk_types.specs.declared.explore.Op.{Op}
 use Rattle.lk_types.specs.declared.explore.Op.TheVariants as op
 use Rattle.lk_agg.specs.Tallies.{Tallied, tally_of, with_amount}
+use Rattle.lk_agg.specs.declared.kept.KeptRows.{KeptRows}
 use Rattle.lk_agg.specs.declared.columns.Column.{Column}
 use Rattle.lk_agg.specs.declared.columns.Column.TheVariants.{Count, Sum, SumDistinct, Average, AverageDistinct, Different, Least, Greatest, Nothing}
 
@@ -20,13 +21,17 @@ keyed entries = filter (λ e. is_some e.1.key) entries
 abbrev pub placed : List Entry → List Entry
 placed entries = filter (λ e. not (is_some e.1.key)) entries
 
+-- the rows that are kept for a measure over keys
+abbrev pub rows_over : Op → List Entry → KeptRows
+rows_over o entries = record { pairs = pairs_of o (keyed entries); tally = tally_of (placed entries) }
+
 -- what a group keeps for a measure, over what its rows give
 abbrev pub column_of : Op → List Entry → Column
-column_of op.Count entries = Count (pairs_of op.Count (keyed entries)) (tally_of (placed entries))
-column_of op.Sum entries = Sum (pairs_of op.Sum (keyed entries)) (tally_of (placed entries))
-column_of op.SumDistinct entries = SumDistinct (pairs_of op.SumDistinct (keyed entries)) (tally_of (placed entries))
-column_of op.Average entries = Average (pairs_of op.Average (keyed entries)) (tally_of (placed entries))
-column_of op.AverageDistinct entries = AverageDistinct (pairs_of op.AverageDistinct (keyed entries)) (tally_of (placed entries))
+column_of op.Count entries = Count (rows_over op.Count entries)
+column_of op.Sum entries = Sum (rows_over op.Sum entries)
+column_of op.SumDistinct entries = SumDistinct (rows_over op.SumDistinct entries)
+column_of op.Average entries = Average (rows_over op.Average entries)
+column_of op.AverageDistinct entries = AverageDistinct (rows_over op.AverageDistinct entries)
 column_of op.CountDistinct entries = Different (distinct_values (values_of_entries entries))
 column_of op.Min entries = Least (least_of (values_of_entries entries))
 column_of op.Max entries = Greatest (greatest_of (values_of_entries entries))
@@ -52,17 +57,21 @@ with_key o given pairs = with_key_by o given.key given.value pairs
 abbrev pub with_place : KeyValue → Tallied → Tallied
 with_place given t = if is_some given.key then t else with_amount given.value t
 
+-- the rows with one more
+abbrev pub with_row : Op → KeyValue → KeptRows → KeptRows
+with_row o given rows = record { pairs = with_key o given rows.pairs; tally = with_place given rows.tally }
+
 -- the set with one more value, unless it is null
 abbrev pub with_value : Value → List Value → List Value
 with_value v values = if is_null v then values else with_item value_cmp v values
 
 -- what is kept with one more entry
 abbrev pub with_entry : Entry → Column → Column
-with_entry e (Count pairs tally) = Count (with_key op.Count e.1 pairs) (with_place e.1 tally)
-with_entry e (Sum pairs tally) = Sum (with_key op.Sum e.1 pairs) (with_place e.1 tally)
-with_entry e (SumDistinct pairs tally) = SumDistinct (with_key op.SumDistinct e.1 pairs) (with_place e.1 tally)
-with_entry e (Average pairs tally) = Average (with_key op.Average e.1 pairs) (with_place e.1 tally)
-with_entry e (AverageDistinct pairs tally) = AverageDistinct (with_key op.AverageDistinct e.1 pairs) (with_place e.1 tally)
+with_entry e (Count rows) = Count (with_row op.Count e.1 rows)
+with_entry e (Sum rows) = Sum (with_row op.Sum e.1 rows)
+with_entry e (SumDistinct rows) = SumDistinct (with_row op.SumDistinct e.1 rows)
+with_entry e (Average rows) = Average (with_row op.Average e.1 rows)
+with_entry e (AverageDistinct rows) = AverageDistinct (with_row op.AverageDistinct e.1 rows)
 with_entry e (Different values) = Different (with_value e.1.value values)
 with_entry e (Least v) = Least (lesser e.1.value v)
 with_entry e (Greatest v) = Greatest (greater e.1.value v)

@@ -10,31 +10,31 @@ use Rattle.lk_types.specs.declared.answer.Partial.{Partial}
 use Rattle.lk_types.specs.declared.answer.GroupRow.{GroupRow}
 use Rattle.lk_types.specs.declared.explore.Op.{Op}
 use Rattle.lk_types.specs.declared.explore.Op.TheVariants as op
-use Rattle.lk_agg.specs.Tallies.{Tallied}
 use Rattle.lk_agg.specs.declared.fault.AggFault.{AggFault}
 use Rattle.lk_agg.specs.declared.fault.AggFault.TheVariants.{Conflict, NoMemory}
 use Rattle.lk_agg.specs.declared.digest.Digest.{Digest}
 use Rattle.lk_agg.specs.declared.parts.Part.{Part}
+use Rattle.lk_agg.specs.declared.kept.KeptRows.{KeptRows}
 use Rattle.lk_agg.specs.declared.columns.Column.{Column}
 use Rattle.lk_agg.specs.declared.columns.Column.TheVariants.{Count, Sum, SumDistinct, Average, AverageDistinct, Different, Least, Greatest, Nothing}
 
 -- ---- parts
 
 -- the number of pairs and tallied rows
-abbrev pub counted : List Pair → Tallied → Partial
-counted pairs tally = record no_partial { count = length pairs + tally.rows }
+abbrev pub counted : KeptRows → Partial
+counted rows = record no_partial { count = length rows.pairs + rows.tally.rows }
 
 -- the sum of their values, and how many of these are not null
-abbrev pub summed : List Pair → Tallied → Partial
-summed pairs tally = record no_partial { sum = total pairs +ℤ tally.sum; values = known_count pairs + tally.values }
+abbrev pub summed : KeptRows → Partial
+summed rows = record no_partial { sum = total rows.pairs +ℤ rows.tally.sum; values = known_count rows.pairs + rows.tally.values }
 
 -- the parts of a measure over what a group keeps for it
 abbrev pub part_of : Column → Part
-part_of (Count pairs tally) = record { op = op.Count; parts = counted pairs tally }
-part_of (Sum pairs tally) = record { op = op.Sum; parts = summed pairs tally }
-part_of (SumDistinct pairs tally) = record { op = op.SumDistinct; parts = summed pairs tally }
-part_of (Average pairs tally) = record { op = op.Average; parts = summed pairs tally }
-part_of (AverageDistinct pairs tally) = record { op = op.AverageDistinct; parts = summed pairs tally }
+part_of (Count rows) = record { op = op.Count; parts = counted rows }
+part_of (Sum rows) = record { op = op.Sum; parts = summed rows }
+part_of (SumDistinct rows) = record { op = op.SumDistinct; parts = summed rows }
+part_of (Average rows) = record { op = op.Average; parts = summed rows }
+part_of (AverageDistinct rows) = record { op = op.AverageDistinct; parts = summed rows }
 part_of (Different values) = record { op = op.CountDistinct; parts = record no_partial { distinct = length values } }
 part_of (Least v) = record { op = op.Min; parts = record no_partial { least = v } }
 part_of (Greatest v) = record { op = op.Max; parts = record no_partial { most = v } }
@@ -71,11 +71,11 @@ digest_of pairs = record { count = length pairs; sum = total pairs; values = kno
 
 -- the first key that stands with two values in what is kept
 abbrev pub twice_of : Column → Option Value
-twice_of (Count pairs tally) = twice_in pairs
-twice_of (Sum pairs tally) = twice_in pairs
-twice_of (SumDistinct pairs tally) = twice_in pairs
-twice_of (Average pairs tally) = twice_in pairs
-twice_of (AverageDistinct pairs tally) = twice_in pairs
+twice_of (Count rows) = twice_in rows.pairs
+twice_of (Sum rows) = twice_in rows.pairs
+twice_of (SumDistinct rows) = twice_in rows.pairs
+twice_of (Average rows) = twice_in rows.pairs
+twice_of (AverageDistinct rows) = twice_in rows.pairs
 twice_of (Different values) = None
 twice_of (Least v) = None
 twice_of (Greatest v) = None

@@ -1,11 +1,14 @@
--- The pairs that a group keeps for a measure.
-use Rattle.std.specs.Prelude.{List, map}
-use Rattle.lk_types.specs.declared.answer.Pair.{Pair}
+-- The rows that a group keeps for a measure over keys.
+use Rattle.std.specs.Prelude.{[], map}
 use Rattle.lk_agg.specs.NumberPair.{pair_of_numbers}
-use Rattle.lk_agg.specs.declared.pairs.Kept.{Kept}
-use Rattle.lk_agg.specs.declared.pairs.Kept.TheVariants.{Numbers, Whole}
+use Rattle.lk_agg.specs.Tallies.{no_tally}
+use Rattle.lk_agg.specs.declared.kept.Form.{Form}
+use Rattle.lk_agg.specs.declared.kept.Form.TheVariants.{Numbers, Whole, Tally, Mixed}
+use Rattle.lk_agg.specs.declared.kept.KeptRows.{KeptRows}
 
--- the pairs, ascending
-abbrev pub pairs_kept : Kept → List Pair
-pairs_kept (Numbers numbers) = map pair_of_numbers numbers
-pairs_kept (Whole pairs) = pairs
+-- the rows: the pairs of those with keys, ascending, and the tally of those without
+abbrev pub rows_kept : Form → KeptRows
+rows_kept (Numbers numbers) = record { pairs = map pair_of_numbers numbers; tally = no_tally }
+rows_kept (Whole pairs) = record { pairs = pairs; tally = no_tally }
+rows_kept (Tally tally) = record { pairs = []; tally = tally }
+rows_kept (Mixed rows) = rows.value

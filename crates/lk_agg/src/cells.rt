@@ -3,9 +3,8 @@ ghost use Rattle.lk_types.specs.declared.explore.Op.TheVariants.{Count};
 ghost use Rattle.lk_agg.specs.Finishing.{counted, part_of, summed, twice_in, twice_of};
 
 use crate::columns::Column;
-use crate::pairs::Pairs;
+use crate::kept::Kept;
 use crate::parts::{Part, no_partial};
-use crate::tally::Tally;
 use lk_types::{Op, Partial};
 use lk_val::{NoMemory, Value};
 use std::alloc::Global;
@@ -19,13 +18,11 @@ pub(crate) fn finish_column(
     ensures { IfOk result (λ finished. finished ≡ (part_of column, twice_of column)) }
 {
     match column {
-        Column::Count(pairs, tally) => counted(alloc, pairs, tally),
-        Column::Sum(pairs, tally) => summed(alloc, Op::Sum, pairs, tally),
-        Column::SumDistinct(pairs, tally) => summed(alloc, Op::SumDistinct, pairs, tally),
-        Column::Average(pairs, tally) => summed(alloc, Op::Average, pairs, tally),
-        Column::AverageDistinct(pairs, tally) => {
-            summed(alloc, Op::AverageDistinct, pairs, tally)
-        }
+        Column::Count(kept) => counted(alloc, kept),
+        Column::Sum(kept) => summed(alloc, Op::Sum, kept),
+        Column::SumDistinct(kept) => summed(alloc, Op::SumDistinct, kept),
+        Column::Average(kept) => summed(alloc, Op::Average, kept),
+        Column::AverageDistinct(kept) => summed(alloc, Op::AverageDistinct, kept),
         Column::Different(values) => {
             let distinct = values.into_ascending().len() as u64;
             let parts = Partial {
@@ -59,11 +56,11 @@ fn part(op: Op, parts: Partial) -> Part
 }
 
 // The number of the pairs and of the tallied rows.
-fn counted(alloc: Global, pairs: Pairs, tally: Tally) -> Result<(Part, Option<Value>), NoMemory>
+fn counted(alloc: Global, kept: Kept) -> Result<(Part, Option<Value>), NoMemory>
     ensures { IfOk result (λ finished. finished
-        ≡ (record { op = Count; parts = counted pairs tally }, twice_in pairs)) }
+        ≡ (record { op = Count; parts = counted kept }, twice_in kept.pairs)) }
 {
-    let digest = pairs.digest(alloc)?;
+    let (digest, tally) = kept.digest(alloc)?;
     let count = together(digest.count, tally.rows())?;
     let parts = Partial {
         count,
@@ -73,16 +70,11 @@ fn counted(alloc: Global, pairs: Pairs, tally: Tally) -> Result<(Part, Option<Va
 }
 
 // The sum of their values, and how many of these are not null.
-fn summed(
-    alloc: Global,
-    op: Op,
-    pairs: Pairs,
-    tally: Tally,
-) -> Result<(Part, Option<Value>), NoMemory>
+fn summed(alloc: Global, op: Op, kept: Kept) -> Result<(Part, Option<Value>), NoMemory>
     ensures { IfOk result (λ finished. finished
-        ≡ (record { op = op; parts = summed pairs tally }, twice_in pairs)) }
+        ≡ (record { op = op; parts = summed kept }, twice_in kept.pairs)) }
 {
-    let digest = pairs.digest(alloc)?;
+    let (digest, tally) = kept.digest(alloc)?;
     let sum = sum_of(digest.sum, tally.sum())?;
     let values = together(digest.values, tally.values())?;
     let parts = Partial {

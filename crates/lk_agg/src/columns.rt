@@ -3,28 +3,27 @@ ghost use Rattle.lk_semantics.specs.Measures.{lesser, greater, unless_counted};
 ghost use Rattle.std.specs.Ordering.{is_lt, is_gt};
 ghost use Rattle.lk_val.specs.ValueRefs.{value_of_ref};
 ghost use Rattle.lk_val.specs.Values.{null_last_cmp, value_cmp};
-ghost use Rattle.lk_agg.specs.Columns.{fresh, with_cells, with_entry, with_given, with_key, with_pair, with_place, with_value};
+ghost use Rattle.lk_agg.specs.Columns.{fresh, with_cells, with_entry, with_given, with_pair, with_row, with_value};
 ghost use Rattle.lk_agg.specs.Given.{given_cells, key_value_of};
 
 use crate::given::{Given, KeyRef, given_at};
-use crate::pairs::Pairs;
+use crate::kept::Kept;
 use crate::sorted::Sorted;
-use crate::tally::Tally;
 use lk_types::Op;
 use lk_val::{Items, NoMemory, Value, ValueRef};
 use std::alloc::Global;
 use std::cmp::Ordering;
 use std::mem::size_of;
 
-// What a group keeps for a measure: the pairs of its keys and values beside a tally of the rows without keys, its
-// different values, or its least or greatest value.
+// What a group keeps for a measure: its rows where it goes over keys, its different values, or its least or greatest
+// value.
 #[derive(Drop)]
 pub(crate) enum Column {
-    Count(Pairs, Tally),
-    Sum(Pairs, Tally),
-    SumDistinct(Pairs, Tally),
-    Average(Pairs, Tally),
-    AverageDistinct(Pairs, Tally),
+    Count(Kept),
+    Sum(Kept),
+    SumDistinct(Kept),
+    Average(Kept),
+    AverageDistinct(Kept),
     Different(Sorted<Value>),
     Least(Value),
     Greatest(Value),
@@ -32,7 +31,7 @@ pub(crate) enum Column {
 }
 
 // A group of many takes this for each measure, beside its pairs.
-const _: () = prove!(size_of::<Column>() == 80);
+const _: () = prove!(size_of::<Column>() == 48);
 
 // A column for each measure, before any row.
 pub(crate) fn fresh_columns(alloc: Global, ops: &[Op]) -> Result<Items<Column>, NoMemory>
@@ -49,11 +48,11 @@ fn fresh(alloc: Global, op: Op) -> Column
     ensures { result ≡ fresh op }
 {
     match op {
-        Op::Count => Column::Count(Pairs::new(alloc), Tally::new()),
-        Op::Sum => Column::Sum(Pairs::new(alloc), Tally::new()),
-        Op::SumDistinct => Column::SumDistinct(Pairs::new(alloc), Tally::new()),
-        Op::Average => Column::Average(Pairs::new(alloc), Tally::new()),
-        Op::AverageDistinct => Column::AverageDistinct(Pairs::new(alloc), Tally::new()),
+        Op::Count => Column::Count(Kept::new(alloc)),
+        Op::Sum => Column::Sum(Kept::new(alloc)),
+        Op::SumDistinct => Column::SumDistinct(Kept::new(alloc)),
+        Op::Average => Column::Average(Kept::new(alloc)),
+        Op::AverageDistinct => Column::AverageDistinct(Kept::new(alloc)),
         Op::CountDistinct => Column::Different(Sorted::new(alloc)),
         Op::Min => Column::Least(Value::Null),
         Op::Max => Column::Greatest(Value::Null),
@@ -101,13 +100,11 @@ fn add_entry(
     ensures { OnOk result (column.new ≡ with_entry (place, key_value_of given.entry) column.old) }
 {
     match column {
-        Column::Count(pairs, tally) => add_key(alloc, pairs, tally, Op::Count, given),
-        Column::Sum(pairs, tally) => add_key(alloc, pairs, tally, Op::Sum, given),
-        Column::SumDistinct(pairs, tally) => add_key(alloc, pairs, tally, Op::SumDistinct, given),
-        Column::Average(pairs, tally) => add_key(alloc, pairs, tally, Op::Average, given),
-        Column::AverageDistinct(pairs, tally) => {
-            add_key(alloc, pairs, tally, Op::AverageDistinct, given)
-        }
+        Column::Count(kept) => add_row(alloc, kept, Op::Count, given),
+        Column::Sum(kept) => add_row(alloc, kept, Op::Sum, given),
+        Column::SumDistinct(kept) => add_row(alloc, kept, Op::SumDistinct, given),
+        Column::Average(kept) => add_row(alloc, kept, Op::Average, given),
+        Column::AverageDistinct(kept) => add_row(alloc, kept, Op::AverageDistinct, given),
         Column::Different(values) => add_value(alloc, values, given.value),
         Column::Least(value) => {
             if is_lesser(given.value, value.as_ref()) {
@@ -126,36 +123,30 @@ fn add_entry(
 }
 
 // Adds the pair of a row with a key, and tallies one without.
-fn add_key(
-    alloc: Global,
-    pairs: &mut Pairs,
-    tally: &mut Tally,
-    op: Op,
-    given: KeyRef<'_>,
-) -> Result<(), NoMemory>
-    ensures pairs { OnOk result (pairs.new ≡ with_key op (key_value_of given.entry) pairs.old) }
-    ensures tally { OnOk result (tally.new ≡ with_place (key_value_of given.entry) tally.old) }
+fn add_row(alloc: Global, kept: &mut Kept, op: Op, given: KeyRef<'_>) -> Result<(), NoMemory>
+    ensures { OnOk result (kept.new ≡ with_row op (key_value_of given.entry) kept.old) }
 {
     match given.key {
-        None => tally.add(given.value),
-        Some(key) => add_pair(alloc, pairs, op, key, given.value),
+        None => kept.tally(alloc, given.value),
+        Some(key) => add_pair(alloc, kept, op, key, given.value),
     }
 }
 
 fn add_pair(
     alloc: Global,
-    pairs: &mut Pairs,
+    kept: &mut Kept,
     op: Op,
     key: ValueRef<'_>,
     value: ValueRef<'_>,
 ) -> Result<(), NoMemory>
-    ensures { OnOk result (pairs.new
-        ≡ with_pair op (value_of_ref key.entry) (value_of_ref value.entry) pairs.old) }
+    ensures { OnOk result (kept.new ≡ record kept.old {
+      pairs = with_pair op (value_of_ref key.entry) (value_of_ref value.entry) kept.old.pairs;
+    }) }
 {
     if key.is_null() {
         return Ok(());
     }
-    pairs.insert(alloc, key, unless_counted(op, value))
+    kept.insert(alloc, key, unless_counted(op, value))
 }
 
 #[tactic(auto, using(crate::proofs::KeptLaws::values_exact))]

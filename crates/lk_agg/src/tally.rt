@@ -1,3 +1,4 @@
+use crate::halves::Halves;
 use lk_val::{NoMemory, ValueRef};
 use std::marker::Model;
 
@@ -6,7 +7,7 @@ use std::marker::Model;
 pub(crate) struct Tally {
     rows: u64,
     values: u64,
-    sum: i128,
+    sum: Halves,
 }
 
 impl Model for Tally {
@@ -22,7 +23,7 @@ impl Model for Tally {
 }
 
 impl Tally {
-    ghost use Rattle.std.specs.Prelude.{◌≡◌, OnOk};
+    ghost use Rattle.std.specs.Prelude.{◌≡◌, OnOk, true};
     ghost use Rattle.lk_val.specs.ValueRefs.{value_of_ref};
     ghost use Rattle.lk_agg.specs.Tallies.{no_tally, with_amount};
 
@@ -33,7 +34,7 @@ impl Tally {
         Tally {
             rows: 0,
             values: 0,
-            sum: 0,
+            sum: Halves::zero(),
         }
     }
 
@@ -49,11 +50,18 @@ impl Tally {
             ValueRef::Null => {}
             ValueRef::Num(num) => {
                 self.values += 1;
-                self.sum += i128::from(num.0);
+                self.sum.add(num.0);
             }
             _ => self.values += 1,
         }
         Ok(())
+    }
+
+    // Whether no row was counted.
+    pub(crate) fn is_empty(&self) -> bool
+        ensures { result ≡ true → self.now ≡ no_tally }
+    {
+        self.rows == 0
     }
 
     pub(crate) fn rows(&self) -> u64
@@ -71,6 +79,6 @@ impl Tally {
     pub(crate) fn sum(&self) -> i128
         ensures { result ≡ self.now.sum }
     {
-        self.sum
+        self.sum.value()
     }
 }
