@@ -2,7 +2,7 @@
 use Rattle.std.specs.Prelude.{◌≡◌, ℕ, Option, Some, None}
 use Rattle.lk_keep.specs.declared.held.Held.{Held}
 use Rattle.lk_keep.specs.declared.held.Held.TheVariants.{Memory, File}
-use Rattle.lk_keep.specs.Saved.{IsSaved}
+use Rattle.lk_ledger.specs.Saved.{IsSaved}
 use Rattle.lk_ledger.specs.declared.kept.Kept.{Kept}
 use Rattle.lk_keep.specs.declared.sql_keeper.SqlKeeper.{SqlKeeper}
 

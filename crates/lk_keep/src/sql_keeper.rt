@@ -1,15 +1,14 @@
 ghost use Rattle.std.specs.Prelude.{◌≡◌, None, IfOk};
 ghost use Rattle.lk_ledger.specs.Causes.{HasKeepCause};
-ghost use Rattle.lk_keep.specs.Saved.{IsSaved};
+ghost use Rattle.lk_ledger.specs.Saved.{IsSaved};
 ghost use Rattle.lk_keep.specs.System.{sql_faults};
 
 mod id;
 mod reading;
 mod refusal;
-mod saves;
 mod writing;
 
-use lk_ledger::{Command, KeepFault, Keeper, Kept};
+use lk_ledger::{Command, KeepFault, Keeper, Kept, faults_after};
 use lk_val::Text;
 use reading::read_store;
 use refusal::Refusal;
@@ -97,9 +96,7 @@ impl SqlKeeper {
         ensures same { result ≡ answer }
         ensures cause { HasKeepCause (sql_faults self.old) (sql_faults self.new) result }
     {
-        if let Err(KeepFault::Failed) = &answer {
-            self.faults = self.faults.saturating_add(1);
-        }
+        self.faults = faults_after(self.faults, &answer);
         answer
     }
 }

@@ -1,3 +1,4 @@
 pub mod Causes
 pub mod Memory
+pub mod Saved
 pub mod Saving

@@ -1,4 +1,5 @@
 ghost use Rattle.std.specs.Prelude.{◌≡◌};
+ghost use Rattle.lk_ledger.specs.Causes.{HasKeepCause};
 
 use lk_val::NoMemory;
 use std::alloc::AllocError;
@@ -32,5 +33,15 @@ impl From<AllocError> for KeepFault {
 
     fn from(_: AllocError) -> KeepFault {
         KeepFault::NoMemory
+    }
+}
+
+/// A store's count of faults after a call: one more where the call failed, up to the greatest of 64 bits.
+pub fn faults_after<T>(faults: u64, answer: &Result<T, KeepFault>) -> u64
+    ensures { HasKeepCause faults result answer.now }
+{
+    match answer {
+        Err(KeepFault::Failed) => faults.saturating_add(1),
+        _ => faults,
     }
 }

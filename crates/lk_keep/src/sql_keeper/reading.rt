@@ -1,11 +1,10 @@
 // What the tables of a store hold. Rows that no save writes are refused.
 ghost use Rattle.std.specs.Prelude.{◌≡◌, Ok, Err, IfOk, if◌then◌else◌, length};
-ghost use Rattle.lk_keep.specs.Saved.{IsSaved, are_saves};
+ghost use Rattle.lk_ledger.specs.Saved.{IsSaved, are_saves};
 
 use crate::sql_keeper::id::is_id;
 use crate::sql_keeper::refusal::Refusal;
-use crate::sql_keeper::saves::are_saves;
-use lk_ledger::{Chunk, Kept, KeptId};
+use lk_ledger::{Chunk, Kept, KeptId, are_saves};
 use lk_val::{Bytes, Items, Text};
 use sqlite::{Alter, Connection, Row};
 use std::alloc::Global;

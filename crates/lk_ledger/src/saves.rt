@@ -1,11 +1,11 @@
-// Whether rows can be what saves have left.
 ghost use Rattle.std.specs.Prelude.{◌≡◌};
-ghost use Rattle.lk_keep.specs.Saved.{are_batches_of, are_rising, are_saves};
+ghost use Rattle.lk_ledger.specs.Saved.{are_batches_of, are_rising, are_saves};
 
-use lk_ledger::KeptId;
+use crate::kept::KeptId;
 
-// Whether the loads have rising numbers from 1 to the last save's, and the batches some of these.
-pub(crate) fn are_saves(last: u64, ids: &[KeptId], numbers: &[u64]) -> bool
+/// Whether saves can have left these loads and the batches of these numbers: the loads have rising numbers from 1 to the last
+/// save's, and the batches some of these. (lookd)
+pub fn are_saves(last: u64, ids: &[KeptId], numbers: &[u64]) -> bool
     ensures { result ≡ are_saves last ids.now numbers.now }
 {
     are_rising(last, ids) && are_batches_of(ids, numbers)
