@@ -1,25 +1,34 @@
 use case_lines::CaseFault;
 use lk_types::{Answer, Shape, print_cell};
-use lk_val::{Bytes, Cell, NoMemory, Text, Value};
+use lk_val::{Bytes, Cell, Items, NoMemory, Text, Value};
 use std::alloc::Global;
 
 /// The lines of an answer, as `EU 50, US 61/2 (all)`, or `(cut)` where there are more.
-pub fn show_answer(alloc: Global, answer: Answer) -> Result<Text, CaseFault> {
-    let Answer::Table(lines, complete) = answer else {
-        return Err(CaseFault::NoSuchCase);
-    };
+pub fn show_answer(alloc: Global, answer: &Answer) -> Result<Text, CaseFault> {
+    match answer {
+        Answer::Table(lines, complete) => show_lines(alloc, lines.as_slice(), *complete),
+        _ => Err(CaseFault::NoSuchCase),
+    }
+}
+
+fn show_lines(alloc: Global, lines: &[Items<Cell>], complete: bool) -> Result<Text, CaseFault> {
     let mut shown = Bytes::new(alloc);
-    for line in lines.as_slice() {
+    add_lines(alloc, lines, &mut shown)?;
+    shown.append(if complete { b" (all)" } else { b" (cut)" })?;
+    Text::from_utf8(alloc, shown.as_slice())?.ok_or(CaseFault::NoSuchCase)
+}
+
+fn add_lines(alloc: Global, lines: &[Items<Cell>], shown: &mut Bytes) -> Result<(), CaseFault> {
+    for line in lines {
         if !shown.is_empty() {
             shown.append(b", ")?;
         }
-        add_cells(alloc, line.as_slice(), &mut shown)?;
+        add_cells(alloc, line.as_slice(), shown)?;
     }
     if shown.is_empty() {
         shown.append(b"nothing")?;
     }
-    shown.append(if complete { b" (all)" } else { b" (cut)" })?;
-    Text::from_utf8(alloc, shown.as_slice())?.ok_or(CaseFault::NoSuchCase)
+    Ok(())
 }
 
 fn add_cells(alloc: Global, cells: &[Cell], shown: &mut Bytes) -> Result<(), CaseFault> {

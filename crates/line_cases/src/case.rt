@@ -5,7 +5,7 @@ use crate::values::groups_of;
 use case_lines::CaseFault;
 use lk_lines::{answer_lines, query_components};
 use lk_tree::components;
-use lk_types::{Bound, Explore};
+use lk_types::{Bound, Explore, GroupRow};
 use lk_val::{Items, Text};
 use std::alloc::Global;
 
@@ -21,10 +21,29 @@ pub fn answer_line(alloc: Global, line: &str) -> Result<Text, CaseFault> {
     }
     let (query, groups) = line.rsplit_once(" | ").ok_or(CaseFault::NoSuchCase)?;
     let x = shop(alloc)?;
-    let bound = bound_of(alloc, &x, query)?;
-    let components = query_components(alloc, &x, &bound)?;
-    let groups = groups_of(alloc, &x, components.as_slice(), groups)?;
-    show_answer(alloc, answer_lines(alloc, &x, &bound, groups)?)
+    answer_in(alloc, &x, query, groups)
+}
+
+fn answer_in(alloc: Global, x: &Explore, query: &str, groups: &str) -> Result<Text, CaseFault> {
+    let bound = bound_of(alloc, x, query)?;
+    answer_over(alloc, x, &bound, groups)
+}
+
+// The answer over the groups that the last field writes.
+fn answer_over(alloc: Global, x: &Explore, bound: &Bound, groups: &str) -> Result<Text, CaseFault> {
+    let groups = query_groups(alloc, x, bound, groups)?;
+    let answer = answer_lines(alloc, x, bound, groups)?;
+    show_answer(alloc, &answer)
+}
+
+fn query_groups(
+    alloc: Global,
+    x: &Explore,
+    bound: &Bound,
+    groups: &str,
+) -> Result<Items<GroupRow>, CaseFault> {
+    let components = query_components(alloc, x, bound)?;
+    groups_of(alloc, x, components.as_slice(), groups)
 }
 
 // What the last of a chain of so many `number`s is put together from.
@@ -42,15 +61,19 @@ fn bound_of(alloc: Global, x: &Explore, text: &str) -> Result<Bound, CaseFault> 
     let (fields, rest) = text.split_once(" | ").ok_or(CaseFault::NoSuchCase)?;
     let (filters, rest) = rest.split_once(" | ").ok_or(CaseFault::NoSuchCase)?;
     let (sorts, limit) = rest.split_once(" | ").ok_or(CaseFault::NoSuchCase)?;
+    let limit = limit.parse::<u32>().or(Err(CaseFault::NoSuchCase))?;
+    let picks = picks_of(alloc, x, fields)?;
+    let having = filters_of(alloc, x, filters)?;
+    let sorts = sorts_of(alloc, fields, sorts)?;
     Ok(Bound {
         explore: 0,
-        picks: picks_of(alloc, x, fields)?,
+        picks,
         joins: Items::new(alloc),
         access: Items::new(alloc),
         rows: Items::new(alloc),
-        having: filters_of(alloc, x, filters)?,
-        sorts: sorts_of(alloc, fields, sorts)?,
-        limit: limit.parse::<u32>().or(Err(CaseFault::NoSuchCase))?,
+        having,
+        sorts,
+        limit,
         fresh: false,
         csv: false,
     })

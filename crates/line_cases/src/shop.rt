@@ -46,20 +46,26 @@ pub fn chain(alloc: Global, length: u32) -> Result<Explore, CaseFault> {
     let mut measures = Items::new(alloc);
     measures.push(measure(alloc, "count", Op::Count, Kind::Number, None)?)?;
     for before in 0..length {
-        let mut nodes = Items::new(alloc);
-        nodes.push(NumNode::Measure(before))?;
-        let number = NumExpr::from_nodes(nodes).ok_or(CaseFault::NoSuchCase)?;
-        measures.push(measure(alloc, "next", Op::Number, Kind::Number, Some(number))?)?;
+        measures.push(next_measure(alloc, before)?)?;
     }
     explore_of(alloc, measures)
 }
 
+fn next_measure(alloc: Global, before: u32) -> Result<Measure, CaseFault> {
+    let mut nodes = Items::new(alloc);
+    nodes.push(NumNode::Measure(before))?;
+    let number = NumExpr::from_nodes(nodes).ok_or(CaseFault::NoSuchCase)?;
+    measure(alloc, "next", Op::Number, Kind::Number, Some(number))
+}
+
 fn explore_of(alloc: Global, measures: Items<Measure>) -> Result<Explore, CaseFault> {
+    let name = Text::from_str(alloc, "shop")?;
+    let fields = fields(alloc)?;
     Ok(Explore {
-        name: Text::from_str(alloc, "shop")?,
+        name,
         parts: Items::new(alloc),
         joins: Items::new(alloc),
-        fields: fields(alloc)?,
+        fields,
         measures,
         always_join: Items::new(alloc),
         always: Items::new(alloc),
@@ -72,17 +78,27 @@ fn explore_of(alloc: Global, measures: Items<Measure>) -> Result<Explore, CaseFa
 fn fields(alloc: Global) -> Result<Items<Field>, CaseFault> {
     let mut fields = Items::new(alloc);
     for name in FIELDS {
-        let mut nodes = Items::new(alloc);
-        nodes.push(Node::Column(0, 0))?;
-        fields.push(Field {
-            name: Text::from_str(alloc, name)?,
-            part: 0,
-            kind: Kind::Text,
-            expr: Expr::from_nodes(nodes).ok_or(CaseFault::NoSuchCase)?,
-            shape: Shape::Plain,
-        })?;
+        fields.push(field(alloc, name)?)?;
     }
     Ok(fields)
+}
+
+fn field(alloc: Global, name: &str) -> Result<Field, CaseFault> {
+    let name = Text::from_str(alloc, name)?;
+    let expr = first_column(alloc)?;
+    Ok(Field {
+        name,
+        part: 0,
+        kind: Kind::Text,
+        expr,
+        shape: Shape::Plain,
+    })
+}
+
+fn first_column(alloc: Global) -> Result<Expr, CaseFault> {
+    let mut nodes = Items::new(alloc);
+    nodes.push(Node::Column(0, 0))?;
+    Expr::from_nodes(nodes).ok_or(CaseFault::NoSuchCase)
 }
 
 fn measures(alloc: Global) -> Result<Items<Measure>, CaseFault> {
@@ -91,10 +107,14 @@ fn measures(alloc: Global) -> Result<Items<Measure>, CaseFault> {
         measures.push(measure(alloc, name, op, kind, None)?)?;
     }
     for (name, words) in NUMBERS {
-        let number = Some(calculation(alloc, words)?);
-        measures.push(measure(alloc, name, Op::Number, Kind::Number, number)?)?;
+        measures.push(calculated(alloc, name, words)?)?;
     }
     Ok(measures)
+}
+
+fn calculated(alloc: Global, name: &str, words: &str) -> Result<Measure, CaseFault> {
+    let number = calculation(alloc, words)?;
+    measure(alloc, name, Op::Number, Kind::Number, Some(number))
 }
 
 fn calculation(alloc: Global, words: &str) -> Result<NumExpr, CaseFault> {

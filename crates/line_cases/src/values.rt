@@ -18,16 +18,31 @@ pub fn groups_of(
         return Ok(groups);
     }
     for group in text.split(", ") {
-        let (values, cells) = match group.split_once(": ") {
-            Some((values, cells)) => (values_of(alloc, values)?, cells),
-            None => (Items::new(alloc), group),
-        };
-        groups.push(GroupRow {
-            group: values,
-            cells: cells_of(alloc, x, components, cells)?,
-        })?;
+        groups.push(group_of(alloc, x, components, group)?)?;
     }
     Ok(groups)
+}
+
+fn group_of(
+    alloc: Global,
+    x: &Explore,
+    components: &[u32],
+    text: &str,
+) -> Result<GroupRow, CaseFault> {
+    match text.split_once(": ") {
+        Some((values, cells)) => {
+            let group = values_of(alloc, values)?;
+            let cells = cells_of(alloc, x, components, cells)?;
+            Ok(GroupRow { group, cells })
+        }
+        None => {
+            let cells = cells_of(alloc, x, components, text)?;
+            Ok(GroupRow {
+                group: Items::new(alloc),
+                cells,
+            })
+        }
+    }
 }
 
 fn values_of(alloc: Global, text: &str) -> Result<Items<Value>, CaseFault> {

@@ -4,7 +4,7 @@ use crate::view::answer_view;
 use case_lines::{CaseFault, written};
 use lk_datagroup::read_datagroup;
 use lk_explore::read_explore;
-use lk_objects::{DeclaredExplore, DeclaredView, ExploreFilter};
+use lk_objects::{DeclaredDatagroup, DeclaredExplore, DeclaredView, ExploreFilter};
 use lk_params::{Finding, parameters_of};
 use lk_read::{Node, Tree, read_file};
 use lk_types::{ColumnDef, Kind, Schema, TableDef};
@@ -44,27 +44,54 @@ fn answer_tree(alloc: Global, file: &Tree) -> Result<Text, CaseFault> {
 fn answer_object(alloc: Global, kind: &str, name: &Text, tree: &Tree) -> Result<Text, CaseFault> {
     match kind {
         "view" => {
-            let view = read_view(alloc, &schema(alloc)?, name, tree)?;
-            match first_of_view(&view) {
-                Some(finding) => answer_fault(alloc, &finding.line),
-                None => answer_view(alloc, &view),
-            }
+            let schema = schema(alloc)?;
+            told_view(alloc, &schema, name, tree)
         }
         "explore" => {
             let explore = read_explore(alloc, name, tree)?;
-            match first_of_explore(&explore) {
-                Some(finding) => answer_fault(alloc, &finding.line),
-                None => answer_explore(alloc, &explore),
-            }
+            told_explore(alloc, &explore)
         }
         "datagroup" => {
-            let group = read_datagroup(alloc, &schema(alloc)?, name, tree)?;
-            match &group.first {
-                Some(finding) => answer_fault(alloc, &finding.line),
-                None => answer_datagroup(alloc, &group),
-            }
+            let schema = schema(alloc)?;
+            told_datagroup(alloc, &schema, name, tree)
         }
         _ => Err(CaseFault::NoSuchCase),
+    }
+}
+
+fn told_view(alloc: Global, schema: &Schema, name: &Text, tree: &Tree) -> Result<Text, CaseFault> {
+    let view = read_view(alloc, schema, name, tree)?;
+    fault_or_view(alloc, &view)
+}
+
+fn fault_or_view(alloc: Global, view: &DeclaredView) -> Result<Text, CaseFault> {
+    match first_of_view(view) {
+        Some(finding) => answer_fault(alloc, &finding.line),
+        None => answer_view(alloc, view),
+    }
+}
+
+fn told_explore(alloc: Global, explore: &DeclaredExplore) -> Result<Text, CaseFault> {
+    match first_of_explore(explore) {
+        Some(finding) => answer_fault(alloc, &finding.line),
+        None => answer_explore(alloc, explore),
+    }
+}
+
+fn told_datagroup(
+    alloc: Global,
+    schema: &Schema,
+    name: &Text,
+    tree: &Tree,
+) -> Result<Text, CaseFault> {
+    let group = read_datagroup(alloc, schema, name, tree)?;
+    fault_or_datagroup(alloc, &group)
+}
+
+fn fault_or_datagroup(alloc: Global, group: &DeclaredDatagroup) -> Result<Text, CaseFault> {
+    match &group.first {
+        Some(finding) => answer_fault(alloc, &finding.line),
+        None => answer_datagroup(alloc, group),
     }
 }
 
@@ -114,16 +141,27 @@ fn first_of_filter(filter: &ExploreFilter) -> Option<&Finding> {
 
 // The table `t` with the column `c`.
 fn schema(alloc: Global) -> Result<Schema, CaseFault> {
-    let mut columns = Items::new(alloc);
-    columns.push(ColumnDef {
-        name: Text::from_str(alloc, "c")?,
-        kind: Kind::Text,
-    })?;
     let mut tables = Items::new(alloc);
-    tables.push(TableDef {
-        name: Text::from_str(alloc, "t")?,
+    tables.push(table(alloc)?)?;
+    Ok(Schema { tables })
+}
+
+fn table(alloc: Global) -> Result<TableDef, CaseFault> {
+    let name = Text::from_str(alloc, "t")?;
+    let columns = columns(alloc)?;
+    Ok(TableDef {
+        name,
         columns,
         key: None,
+    })
+}
+
+fn columns(alloc: Global) -> Result<Items<ColumnDef>, CaseFault> {
+    let name = Text::from_str(alloc, "c")?;
+    let mut columns = Items::new(alloc);
+    columns.push(ColumnDef {
+        name,
+        kind: Kind::Text,
     })?;
-    Ok(Schema { tables })
+    Ok(columns)
 }

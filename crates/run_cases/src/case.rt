@@ -1,12 +1,11 @@
-use crate::folder::folder_of;
-use crate::outside::{Outside, calls};
-use crate::saving::answer_store;
-use crate::store::Store;
-use case_lines::{CaseFault, written};
-use lk_io::{Files, FolderFiles, MemClock, MemSink, MemSource};
+use case_lines::CaseFault;
+use lk_io::{Files, FolderFiles, MemSink, MemSource};
 use lk_keep::{Keeper, MemKeeper};
 use lk_serve::run;
-use lk_val::{Items, NoMemory, Text, as_text};
+use lk_val::{NoMemory, Text};
+use run_lines::{
+    Outside, Store, Streams, answer_of, answer_store, clock_at, folder_of, streams_of, texts_of,
+};
 use std::alloc::Global;
 
 /// What the lines behind a line stand on: the files that they change, the moment of the clock, what stands around the runs,
@@ -139,24 +138,6 @@ fn answer_over<F: Files>(
     answer_of(alloc, status, &streams.out)
 }
 
-// The input and the output of a run.
-#[derive(Drop)]
-struct Streams {
-    input: MemSource,
-    out: MemSink,
-}
-
-fn streams_of(alloc: Global, outside: &Outside, body: &str) -> Result<Streams, CaseFault> {
-    let out = MemSink::new(alloc, outside.room, calls(alloc, &outside.output)?)?;
-    let input = input_of(alloc, outside, body)?;
-    Ok(Streams { input, out })
-}
-
-fn input_of(alloc: Global, outside: &Outside, body: &str) -> Result<MemSource, CaseFault> {
-    let body = outside.padded(alloc, written(alloc, body)?)?;
-    Ok(MemSource::new(body, calls(alloc, &outside.input)?))
-}
-
 fn run_with<F: Files>(
     alloc: Global,
     base: &Base,
@@ -195,14 +176,6 @@ fn run_over<F: Files>(
     })
 }
 
-fn answer_of(alloc: Global, status: u8, out: &MemSink) -> Result<Text, CaseFault> {
-    let text = as_text(out.held()).ok_or(CaseFault::NoSuchCase)?;
-    let text = on_one_line(alloc, text.trim_end())?;
-    let text = text.as_str();
-    let answer = format!(in alloc; "{status} {text}")?;
-    Ok(Text::from_str(alloc, answer.as_str().trim_end())?)
-}
-
 fn answer_kept(alloc: Global, base: &mut Base) -> Result<Text, CaseFault> {
     let keeper = base.keeper.as_mut().ok_or(CaseFault::NoSuchCase)?;
     let failed = keeper.faults();
@@ -210,30 +183,4 @@ fn answer_kept(alloc: Global, base: &mut Base) -> Result<Text, CaseFault> {
     let (number, loads, batches) = (kept.number, kept.ids.len(), kept.chunks.len());
     let answer = format!(in alloc; "{number}: {loads} loads, {batches} batches, {failed} failed")?;
     Ok(Text::from_string(answer))
-}
-
-fn texts_of(alloc: Global, words: &[&str]) -> Result<Items<Text>, NoMemory> {
-    let mut texts = Items::new(alloc);
-    for word in words {
-        texts.push(Text::from_str(alloc, word)?)?;
-    }
-    Ok(texts)
-}
-
-fn clock_at(alloc: Global, now: i64) -> Result<MemClock, NoMemory> {
-    let mut moments = Items::new(alloc);
-    moments.push(now)?;
-    Ok(MemClock::new(moments))
-}
-
-fn on_one_line(alloc: Global, text: &str) -> Result<Text, CaseFault> {
-    let mut line = String::new(alloc);
-    for character in text.chars() {
-        match character {
-            '\n' => line.push_str("\\n")?,
-            '\r' => line.push_str("\\r")?,
-            other => line.push(other)?,
-        }
-    }
-    Ok(Text::from_string(line))
 }

@@ -3,16 +3,11 @@
 #![tactic(auto)]
 
 mod case;
-mod folder;
-mod outside;
-mod saving;
-mod store;
 
 use case::{Base, answer_line};
 use lk_val::Text;
-use outside::Outside;
+use run_lines::{Outside, Store};
 use std::io;
-use store::Store;
 
 fn main(rt: HostRuntime) -> io::Result<()> {
     let mut base = Base {

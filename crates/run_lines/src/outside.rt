@@ -1,7 +1,7 @@
 // What stands around the runs of the lines behind a line, and what of it fails. The fields are `input 1 fails`,
 // `output 2 fails` and `store 0 fails`, which let a call fail, counted from 0; `room of 20 bytes` for the output; `body of
-// 5 bytes`, which puts spaces behind the body; `store of 3 loads`, of one row each, whose batches are gone; and `batch TABLE of
-// TEXT`, one load more of one row, whose batch is there.
+// 5 bytes`, which puts spaces behind the body; `store of 3 loads`, of one row each, whose batches are gone; `batch TABLE of
+// TEXT`, one load more of one row, whose batch is there; and `store at 9`, whose number is 9 where its loads are fewer.
 
 use case_lines::{CaseFault, written};
 use lk_keep::{Chunk, Kept, KeptId, MemKeeper};
@@ -22,6 +22,7 @@ pub struct Outside {
     pub room: usize,
     pub body: usize,
     pub loads: u64,
+    pub number: u64,
     pub batches: Vec<Chunk>,
 }
 
@@ -35,6 +36,7 @@ impl Outside {
             room: ROOM,
             body: 0,
             loads: 0,
+            number: 0,
             batches: Vec::new(alloc),
         }
     }
@@ -63,6 +65,8 @@ impl Outside {
             self.body = size;
         } else if let Some(size) = size_in(field, "store of ", " loads") {
             self.loads = size as u64;
+        } else if let Some(number) = number_in(field, "store at ", "") {
+            self.number = number;
         } else if let Some((table, body)) = batch_in(field) {
             self.batches.push(Chunk {
                 table: Text::from_str(alloc, table)?,
@@ -98,7 +102,7 @@ impl Outside {
             chunks.push(batch.copied(alloc)?)?;
         }
         let kept = Kept {
-            number: count,
+            number: count.max(self.number),
             chunks,
             ids,
         };
@@ -106,8 +110,8 @@ impl Outside {
     }
 }
 
-/// The numbers of the calls that fail.
-pub fn calls(alloc: Global, numbers: &[u64]) -> Result<Items<u64>, NoMemory> {
+// The numbers of the calls that fail.
+pub(crate) fn calls(alloc: Global, numbers: &[u64]) -> Result<Items<u64>, NoMemory> {
     let mut calls = Items::new(alloc);
     for number in numbers {
         calls.push(*number)?;
