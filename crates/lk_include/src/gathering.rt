@@ -6,6 +6,7 @@ ghost use Rattle.lk_include.specs.Causes.{HasProjectCause, is_outside};
 ghost use Rattle.lk_include.specs.Following.{IsListing, progress_of};
 ghost use Rattle.lk_include.specs.Gathering.{gathered, missing, table_at, trees_from, trees_in, steps, from_root, lookml_paths};
 ghost use Rattle.lk_include.specs.Patterns.{is_root};
+ghost use Rattle.lk_include.specs.Reading.{AreRead};
 
 use crate::faults::line;
 use crate::listing::{Listing, list, read_listed, roots_of};
@@ -21,6 +22,7 @@ use std::collections::VecDeque;
 /// order of reading; or the first fault on the way. (Looker, LookML reference: include; lookd)
 pub fn gather<F: Files>(alloc: Global, files: &mut F) -> Result<Project, ProjectFault>
     ensures project { IfSome (F.told files.old) (λ told. IsUnlessMemory is_outside result (gathered told)) }
+    ensures read { IfOk result (λ project. AreRead project.trees) }
     ensures same { F.told files.new ≡ F.told files.old }
     ensures cause { HasProjectCause (F.faults files.old) (F.faults files.new) result }
 {
@@ -85,6 +87,7 @@ fn read_trees<F: Files>(
     requires { IfSome (F.told files.old) (IsListing listing.now) }
     ensures trees { IfSome (F.told files.old) (λ told.
         IsUnlessMemory is_outside result (trees_from told (filter is_root (paths_of told)))) }
+    ensures read { IfOk result AreRead }
     ensures same { F.told files.new ≡ F.told files.old }
     ensures cause { HasProjectCause (F.faults files.old) (F.faults files.new) result }
 {
@@ -104,6 +107,7 @@ fn read_from<F: Files>(
     requires { IfSome (F.told files.old) (IsListing listing.now) }
     ensures trees { IfSome (F.told files.old) (λ told. IsUnlessMemory is_outside result
         (trees_in (steps told (length (lookml_paths told)) (from_root (lookml_paths told) root.now)))) }
+    ensures read { IfOk result AreRead }
     ensures same { F.told files.new ≡ F.told files.old }
     ensures cause { HasProjectCause (F.faults files.old) (F.faults files.new) result }
 {
@@ -114,7 +118,8 @@ fn read_from<F: Files>(
 }
 
 fn from_root(alloc: Global, lookml: &[Text], root: &Text) -> Result<Reading, NoMemory>
-    ensures { IfOk result (λ reading. progress_of reading ≡ from_root lookml.now root.now) }
+    ensures progress { IfOk result (λ reading. progress_of reading ≡ from_root lookml.now root.now) }
+    ensures read { IfOk result (λ reading. AreRead reading.trees) }
 {
     let mut tasks = VecDeque::new(alloc);
     tasks.push_back(Task::Read(root.copy(alloc)?))?;

@@ -5,7 +5,7 @@ ghost use Rattle.lk_io.specs.Folder.{body_of};
 ghost use Rattle.lk_include.specs.Causes.{HasProjectCause, is_outside};
 ghost use Rattle.lk_include.specs.Gathering.{followed, step, steps, sized, after_body, after_reading, tree_in, reach_in, file_line};
 ghost use Rattle.lk_include.specs.Following.{IsStep, IsListing, IsTold, refusal_of, progress_of, next_pending};
-ghost use Rattle.lk_include.specs.Reading.{reading_of};
+ghost use Rattle.lk_include.specs.Reading.{AreRead, IsRead, reading_of};
 ghost use Rattle.lk_include.specs.declared.reading.Task.TheVariants.{Read, Reach};
 
 use crate::faults::line;
@@ -41,9 +41,11 @@ pub fn read_all<F: Files>(
     listing: &Listing,
     reading: &mut Reading,
 ) -> Result<(), ProjectFault>
-    requires { IfSome (F.told files.old) (IsListing listing.now) }
+    requires listing { IfSome (F.told files.old) (IsListing listing.now) }
+    requires read { AreRead reading.old.trees }
     ensures steps { IfSome (F.told files.old) (λ told. IsStep result
         (steps told (length listing.now.lookml) (progress_of reading.old)) (progress_of reading.new)) }
+    ensures read { IfOk result (λ _. AreRead reading.new.trees) }
     ensures same { F.told files.new ≡ F.told files.old }
     ensures cause { HasProjectCause (F.faults files.old) (F.faults files.new) result }
 {
@@ -62,9 +64,11 @@ fn read_one<F: Files>(
     listing: &Listing,
     reading: &mut Reading,
 ) -> Result<(), ProjectFault>
-    requires { IfSome (F.told files.old) (IsListing listing.now) }
+    requires listing { IfSome (F.told files.old) (IsListing listing.now) }
+    requires read { AreRead reading.old.trees }
     ensures step { IfSome (F.told files.old) (λ told. IsStep result
         (step told (progress_of reading.old)) (progress_of reading.new)) }
+    ensures read { IfOk result (λ _. AreRead reading.new.trees) }
     ensures same { F.told files.new ≡ F.told files.old }
     ensures cause { HasProjectCause (F.faults files.old) (F.faults files.new) result }
 {
@@ -82,10 +86,12 @@ fn read_next<F: Files>(
     path: Text,
     reading: &mut Reading,
 ) -> Result<(), ProjectFault>
-    requires { IfSome (F.told files.old) (IsListing listing.now) }
+    requires listing { IfSome (F.told files.old) (IsListing listing.now) }
+    requires read { AreRead reading.old.trees }
     ensures step { IfSome (F.told files.old) (λ told. IsStep result
         (after_body told reading.old.trees reading.old.left path reading.old.tasks.items
         (sized path (body_of path told))) (progress_of reading.new)) }
+    ensures read { IfOk result (λ _. AreRead reading.new.trees) }
     ensures same { F.told files.new ≡ F.told files.old }
     ensures cause { HasProjectCause (F.faults files.old) (F.faults files.new) result }
 {
@@ -103,10 +109,12 @@ fn add_file(
     body: &[u8],
     reading: &mut Reading,
 ) -> Result<(), ProjectFault>
-    requires { length body.now < 2 ^ 32 }
+    requires small { length body.now < 2 ^ 32 }
+    requires read { AreRead reading.old.trees }
     ensures step { (told : List File) → IsListing listing.now told → IsStep result
         (after_reading told reading.old.trees reading.old.left path reading.old.tasks.items
         (tree_in path (reading_of body.now))) (progress_of reading.new) }
+    ensures read { IfOk result (λ _. AreRead reading.new.trees) }
     ensures never { IsErrOf result ProjectFault.Failed → ⊥ }
 {
     let tree = read_tree(alloc, &path, body)?;
@@ -128,6 +136,7 @@ fn add_file(
 fn read_tree(alloc: Global, path: &Text, body: &[u8]) -> Result<Tree, ProjectFault>
     requires { length body.now < 2 ^ 32 }
     ensures tree { IsUnlessMemory is_outside result (tree_in path.now (reading_of body.now)) }
+    ensures read { IfOk result IsRead }
     ensures never { IsErrOf result ProjectFault.Failed → ⊥ }
 {
     match read_file(alloc, body) {

@@ -1,6 +1,6 @@
 -- The measures of the model have what their types compute with, where each field has the code that its type takes.
-use Rattle.std.proofs.Common.{◌≡◌, ◌∙◌, ℕ, Bool, true, false, ◌&&◌, ◌||◌, ◌^◌, ◌-◌, min, List, [], ◌∷◌, refl, ap, sym, subst, Option, Some, None, arith}
-use Rattle.std.specs.Prelude.{flat_map, if◌then◌else◌, nat_lt, not, unwrap_or}
+use Rattle.std.proofs.Common.{◌≡◌, ◌∙◌, ℕ, Bool, true, false, ◌&&◌, ◌||◌, List, [], ◌∷◌, refl, ap, sym, subst, Option, Some, None}
+use Rattle.std.specs.Prelude.{flat_map, if◌then◌else◌, not, unwrap_or}
 use Rattle.std.specs.List.{AllByRecursion, list_all}
 use Rattle.std.specs.Option.{option_and_then, option_or}
 use Rattle.std.proofs.lemmas.Bool.{false≢true}
@@ -20,33 +20,28 @@ use Rattle.lk_objects.specs.declared.field.DeclaredField.{DeclaredField}
 use Rattle.lk_objects.specs.declared.field.FieldSort.{FieldSort}
 use Rattle.lk_objects.specs.declared.field.FieldSort.TheVariants as field_sort
 use Rattle.lk_objects.specs.declared.view.DeclaredView.{DeclaredView}
-use Rattle.lk_params.specs.declared.number.Number.TheVariants.{N15, E3}
 use Rattle.lk_fields.specs.declared.scope.Place.{Place}
 use Rattle.lk_fields.specs.declared.scope.Scope.{Scope}
 use Rattle.lk_fields.specs.Existing.{exists, field_at}
-use Rattle.lk_fields.specs.Substituted.{nodes_in, told_nodes}
 use Rattle.lk_formulas.specs.declared.columns.ColumnKinds.{ColumnKinds}
 use Rattle.lk_formulas.specs.declared.columns.UnknownColumn.TheVariants.{Kept, Null}
 use Rattle.lk_formulas.specs.Columns.{column_named, known_kind}
-use Rattle.lk_formulas.specs.FieldKinds.{extreme_kind, field_clashes, is_number, is_sure, kind_of_measure, value_kind}
+use Rattle.lk_formulas.specs.FieldKinds.{extreme_kind, is_number, is_sure, kind_of_measure, value_kind}
 use Rattle.lk_formulas.specs.FormulaKinds.{kinds_in}
-use Rattle.lk_formulas.specs.Formulas.{dated_of, ends, formula_of, is_certain}
-use Rattle.lk_formulas.specs.NumberSizes.{number_nodes, told}
-use Rattle.lk_formulas.specs.Resolved.{most_nodes, resolved_field}
+use Rattle.lk_formulas.specs.Formulas.{dated_of, ends, is_certain}
 use Rattle.lk_field_faults.specs.ExploreFields.{explore_fields_fault}
-use Rattle.lk_field_faults.specs.Expressions.{is_key_over, is_large, is_over, number_with}
 use Rattle.lk_fields.specs.Scopes.{has_sort}
 use Rattle.lk_fields.specs.declared.scope.Sort.TheVariants as sort
 use Rattle.lk_semantics.specs.Resolved.{has_calculation, is_settled, is_some_settled, is_typed_measure, settled_kind}
 use Rattle.lk_semantics.proofs.EveryLaws.{both, every-append}
 use Rattle.lk_resolved.specs.Fields as resolved_fields
 use Rattle.lk_resolved.specs.Fields.{all_measures, measure_at, measure_if, measure_with, or_number}
-use Rattle.lk_resolved.specs.Formulas.{expr_in, field_formula, or_null}
+use Rattle.lk_resolved.specs.Formulas.{field_formula}
 use Rattle.lk_resolved.specs.Names.{measures}
 use Rattle.lk_model_laws.specs.Typed.{has_code, is_calculation, is_expression, is_open, takes_expression}
 use Rattle.lk_model_laws.proofs.CertainLaws.{IsWritten, certain}
 use Rattle.lk_model_laws.proofs.ColumnLaws.{HasColumns}
-use Rattle.lk_model_laws.proofs.CycleLaws.{expression_clear, fields_end}
+use Rattle.lk_model_laws.proofs.CycleLaws.{fields_end}
 use Rattle.lk_model_laws.proofs.DatedCodeLaws.{HasDatedCodes}
 use Rattle.lk_model_laws.proofs.FieldTypedLaws.{same_itself}
 use Rattle.lk_model_laws.proofs.KeyTypedLaws.{not_missed}
@@ -54,10 +49,9 @@ use Rattle.lk_model_laws.proofs.ListLaws.{all_more}
 use Rattle.lk_model_laws.proofs.MeasureTypedLaws.{calculated, missed, with_typed}
 use Rattle.lk_model_laws.proofs.NamedTypes.{NamedMeasure}
 use Rattle.lk_model_laws.proofs.NumberLaws.{IsOfField, measures_of_fields}
-use Rattle.lk_model_laws.proofs.PieceLaws.{some_none}
-use Rattle.lk_model_laws.proofs.SameFormulaLaws.{same_dated, same_formula}
+use Rattle.lk_model_laws.proofs.SameFormulaLaws.{same_dated}
 use Rattle.lk_model_laws.proofs.SortedCodeLaws.{HasSortedCode}
-use Rattle.lk_model_laws.proofs.TierLaws.{or_first}
+use Rattle.lk_model_laws.proofs.TestedFieldLaws.{formula_is}
 use Rattle.lk_model_laws.proofs.TypedLaws.{kinds_agree, of_field_dated}
 use Rattle.lk_model_laws.proofs.WholeExploreLaws.{placed_field}
 
@@ -84,15 +78,6 @@ pub all_written : (views : List DeclaredView) → AllByRecursion (λ v. AllByRec
 all_written views given =
     all_more (λ v. AllByRecursion HasCode v.fields) (λ v. AllByRecursion IsWritten v.fields) (λ v h. all_more HasCode IsWritten (λ f g. written_given f.sort f.sql g) v.fields h) views given
 
--- ---- sizes
-
-no_large : (large clash : Bool) → (if large then Some N15 else if clash then Some E3 else None) ≡ None → large ≡ false
-no_large true clash h = absurd (some_none h)
-no_large false clash h = refl
-
-not_over : (n : ℕ) → nat_lt most_nodes (min n (2 ^ 64 - 1)) ≡ false → nat_lt most_nodes n ≡ false
-not_over n h = grind arith
-
 -- ---- kinds
 
 extreme_same : (k : Option Kind) → is_same_kind (or_number (option_or k (Some kind.Text))) (unwrap_or k kind.Text) ≡ true
@@ -112,20 +97,8 @@ module _ (schema : Schema) (views : List DeclaredView) (scope : Scope) (columns 
     pub ended : ends views scope place ≡ true
     ended = fields_end schema views scope columns clear place there
 
-    few_nodes : nat_lt most_nodes (nodes_in (formula_of schema views scope columns Kept place)) ≡ false
-    few_nodes =
-        let told_field = resolved_field schema views scope columns Null place in
-        let number : number_with schema views scope columns place field (Some told_field) ≡ None =
-        ap (λ b. number_with schema views scope columns place field (if b then Some told_field else None)) (sym ended) ∙ expression_clear schema views scope columns clear place field at there in
-        let small = no_large (is_large schema views scope columns place field told_field.size) (field_clashes schema views scope columns Null place field) number in
-        let over = or_first (is_over told_field.size) (is_over (told (number_nodes views scope place)))
-        (or_first (is_over told_field.size || is_over (told (number_nodes views scope place))) (is_key_over schema views scope columns place.part field.key) small) in
-        not_over (nodes_in (formula_of schema views scope columns Kept place)) (ap (λ e. nat_lt most_nodes (told_nodes e)) (sym (same_formula schema views scope columns known place)) ∙ over)
-
     pub expr_is : field_formula schema views scope columns place ≡ read
-    expr_is =
-        ap (λ b. or_null (expr_in (if b then Some (resolved_field schema views scope columns Kept place) else None))) ended
-        ∙ ap (λ b. or_null (if b then None else Some read)) few_nodes
+    expr_is = formula_is schema views scope columns clear place field at there
 
     extreme_typed : (s : FieldSort) → field.sort ≡ s → is_number s ≡ false → takes_expression s ≡ true
         → is_some_settled leaves kind.Text (or_number (extreme_kind schema views scope columns Kept place)) (Some (field_formula schema views scope columns place)) ≡ true

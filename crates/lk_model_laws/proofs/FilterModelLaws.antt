@@ -1,10 +1,9 @@
 -- The filters of the model of a project without a fault are filters of the kinds of their dimensions, where its views have names of their own and its raw times are times.
-use Rattle.std.proofs.Common.{◌≡◌, ℕ, Bool, true, false, List, [], ◌∷◌, map, refl, sym, subst, Option, Some, None}
-use Rattle.std.specs.Prelude.{Ok, codes, not, slice_get}
-use Rattle.std.specs.List.{AllByRecursion, filter, list_all, list_any}
+use Rattle.std.proofs.Common.{◌≡◌, ℕ, true, List, [], ◌∷◌, refl, sym, subst, Option, Some, None}
+use Rattle.std.specs.Prelude.{Ok, codes}
+use Rattle.std.specs.List.{AllByRecursion, filter, list_all}
 use Rattle.lk_read.specs.declared.tree.Item.{Item}
 use Rattle.lk_types.specs.declared.explore.Explore.{Explore}
-use Rattle.lk_types.specs.declared.explore.Part.{Part}
 use Rattle.lk_types.specs.declared.model.Model.{Model}
 use Rattle.lk_types.specs.declared.schema.Schema.{Schema}
 use Rattle.lk_params.specs.Parameters.{items_of, last_named}
@@ -18,8 +17,6 @@ use Rattle.lk_objects.specs.declared.view.DerivedTable.{DerivedTable}
 use Rattle.lk_objects.specs.declared.view.Rows.{Rows}
 use Rattle.lk_objects.specs.declared.view.Rows.TheVariants as rows
 use Rattle.lk_fields.specs.declared.scope.Scope.{Scope}
-use Rattle.lk_fields.specs.declared.scope.ScopePart.{ScopePart}
-use Rattle.lk_fields.specs.Scopes.{is_dot}
 use Rattle.lk_formulas.specs.declared.columns.ColumnKinds.{ColumnKinds}
 use Rattle.lk_scope.specs.Scopes.{scope_of}
 use Rattle.lk_field_faults.specs.MadeNames.{names_made}
@@ -32,8 +29,8 @@ use Rattle.lk_explore.specs.Explores.{AreRollups, rollups_in}
 use Rattle.lk_explore.specs.Values.{block_at}
 use Rattle.lk_semantics.specs.Reading.{leaves_of}
 use Rattle.lk_semantics.specs.Resolved.{are_filters_of, has_typed_filters, has_typed_sources, is_typed_field}
-use Rattle.lk_semantics.proofs.EveryLaws.{Every, first, second}
-use Rattle.lk_resolved.specs.Explores.{datagroup_number, parts_from}
+use Rattle.lk_semantics.proofs.EveryLaws.{Every}
+use Rattle.lk_resolved.specs.Explores.{datagroup_number}
 use Rattle.lk_resolved.specs.Filters.{filters_named}
 use Rattle.lk_resolved.specs.Names.{dimensions}
 use Rattle.lk_model.specs.Models.{derived_in, derived_of, derived_with, model_of, names_of, resolved, source_scope}
@@ -41,18 +38,20 @@ use Rattle.lk_model.specs.ViewKinds.{columns_in, kinds_of, source_named}
 use Rattle.lk_model.specs.declared.view_kinds.ViewKinds.{ViewKinds}
 use Rattle.lk_resolve.specs.Objects.{AreExplores, AreViews}
 use Rattle.lk_resolve.specs.Resolving.{HasModel}
-use Rattle.lk_model_laws.specs.Named.{are_distinct, has_own_names}
+use Rattle.lk_model_laws.specs.Named.{has_own_names}
+use Rattle.lk_model_laws.specs.Tables.{HavePlainTables}
 use Rattle.lk_model_laws.specs.Typed.{has_raw_times, is_time_if_raw}
+use Rattle.lk_model_laws.proofs.ExploreNameLaws.{every_map, names_apart, names_plain}
 use Rattle.lk_model_laws.proofs.ExtremeTypedLaws.{HasCode}
 use Rattle.lk_model_laws.proofs.FilterKindLaws.{filters_typed, source_typed}
 use Rattle.lk_model_laws.proofs.FilterLaws.{IsOfKinds, filters_of_kinds}
 use Rattle.lk_model_laws.proofs.FixedModelLaws.{FieldsOfKinds, kinds_of_filters, kinds_of_views}
 use Rattle.lk_model_laws.proofs.KindModelLaws.{have_coded_dimensions}
 use Rattle.lk_model_laws.proofs.ListLaws.{all_at, all_every, all_flat, all_map, all_with}
-use Rattle.lk_model_laws.proofs.MadeNameLaws.{all_once, part_names, parts_apart, plain_parts}
+use Rattle.lk_model_laws.proofs.MadeNameLaws.{all_once, parts_apart}
 use Rattle.lk_model_laws.proofs.ModelLaws.{clear, views_right}
 use Rattle.lk_model_laws.proofs.ModelNumberLaws.{HaveKnownSource, IsKnownSource, scope_is, source_at, source_explore}
-use Rattle.lk_model_laws.proofs.OwnNameLaws.{AreApart, distinct_apart}
+use Rattle.lk_model_laws.proofs.OwnNameLaws.{AreApart}
 use Rattle.lk_model_laws.proofs.RawTimeLaws.{every_more, typed_time}
 use Rattle.lk_model_laws.proofs.StoredQueryLaws.{HasKinds}
 use Rattle.lk_model_laws.proofs.ViewObjectLaws.{IsRightView}
@@ -106,10 +105,6 @@ tables_read schema (o ∷ objects) (v ∷ views) h = (rows_read schema o.name (i
 
 -- ---- a model
 
-every_map : {A B : Type 0} (t : B → Bool) (f : A → B) (xs : List A) → list_all t (map f xs) ≡ true → AllByRecursion (λ x. t (f x) ≡ true) xs
-every_map t f [] h = tt
-every_map t f (x ∷ xs) h = (first (t (f x)) (list_all t (map f xs)) h, every_map t f xs (second (t (f x)) (list_all t (map f xs)) h))
-
 module _ (schema : Schema) (declared : Declared) (kinds : ViewKinds) (once : AllByRecursion (λ v. AreApart (names_made v.fields)) declared.views) (read : AllByRecursion FieldsOfKinds declared.views) where
   abbrev model : Model
   model = model_of schema declared kinds
@@ -128,25 +123,10 @@ module _ (schema : Schema) (declared : Declared) (kinds : ViewKinds) (once : All
     abbrev columns : ColumnKinds
     columns = columns_in kinds scope
 
-    abbrev parts : List Part
-    parts = parts_from schema declared.views scope columns 0 scope.parts
-
-    names_apart : has_own_names (made x) ≡ true → AreApart (map (λ (part : ScopePart). part.name) scope.parts)
-    unfolding resolved
-    names_apart h =
-        subst AreApart (part_names schema declared.views scope columns 0 scope.parts)
-        (distinct_apart (map (λ (part : Part). part.name) parts) (first (are_distinct (map (λ (part : Part). part.name) parts)) (list_all (λ (part : Part). not (list_any is_dot part.name)) parts) h))
-
-    names_plain : has_own_names (made x) ≡ true → (k : ℕ) (part : ScopePart) → slice_get scope.parts k ≡ Some part → list_any is_dot part.name ≡ false
-    unfolding resolved
-    names_plain h =
-        all_at (λ (part : ScopePart). list_any is_dot part.name ≡ false) scope.parts
-        (plain_parts schema declared.views scope columns 0 scope.parts (second (are_distinct (map (λ (part : Part). part.name) parts)) (list_all (λ (part : Part). not (list_any is_dot part.name)) parts) h))
-
     explore_typed : IsReadExplore x → IsPlain x → has_typed_filters (made x) ≡ true
     unfolding resolved
     explore_typed is h =
-        filters_typed schema declared.views scope columns (names_apart h.0) (names_plain h.0) (parts_apart declared.views once scope) h.1
+        filters_typed schema declared.views scope columns (names_apart schema declared kinds x h.0) (names_plain schema declared kinds x h.0) (parts_apart declared.views once scope) h.1
         (λ place field at. placed_field (λ f. AllByRecursion IsOfKinds f.filters) declared.views read scope place field at)
         (datagroup_number (names_of declared.datagroups)) x is.0 is.1
 
@@ -154,7 +134,7 @@ module _ (schema : Schema) (declared : Declared) (kinds : ViewKinds) (once : All
         → are_filters_of (made x) (filters_named declared.views scope (dimensions declared.views scope) table.filters) ≡ true
     unfolding resolved
     table_typed table is h =
-        source_typed schema declared.views scope columns (names_apart h.0) (names_plain h.0) (parts_apart declared.views once scope) h.1
+        source_typed schema declared.views scope columns (names_apart schema declared kinds x h.0) (names_plain schema declared kinds x h.0) (parts_apart declared.views once scope) h.1
         (λ place field at. placed_field (λ f. AllByRecursion IsOfKinds f.filters) declared.views read scope place field at)
         (datagroup_number (names_of declared.datagroups)) x table.filters is
 
@@ -215,9 +195,9 @@ module _ (schema : Schema) (merged : Merged) (model : Model) (h : HasModel schem
       (tables_typed schema h.declared given once_made read_made plain_made (views_right schema merged h.declared h.objects h.is_model.fault) (tables_read schema merged.views h.declared.views h.objects.views_are))
 
 module _ (schema : Schema) (merged : Merged) (model : Model) (h : HasModel schema merged (Ok model)) where
-  -- without derived tables, and where each field has the code that its type takes, each raw time is a day or a moment
-  pub have_times : model.derived ≡ [] → AllByRecursion (λ v. AllByRecursion HasCode v.fields) h.declared.views → list_all has_raw_times model.explores ≡ true
-  have_times stored coded =
+  -- where each field has the code that its type takes, each raw time is a day or a moment
+  pub have_times : HavePlainTables model h.declared → AllByRecursion (λ v. AllByRecursion HasCode v.fields) h.declared.views → list_all has_raw_times model.explores ≡ true
+  have_times tables coded =
       every_more (λ x. list_all (is_typed_field (leaves_of model x)) x.fields) has_raw_times
       (λ x is. every_more (is_typed_field (leaves_of model x)) is_time_if_raw (typed_time (leaves_of model x)) x.fields is) model.explores
-      (have_coded_dimensions schema merged model h stored coded)
+      (have_coded_dimensions schema merged model h tables coded)

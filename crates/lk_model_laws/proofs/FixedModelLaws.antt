@@ -115,7 +115,7 @@ module _ (schema : Schema) (declared : Declared) (kinds : ViewKinds) where
   -- ---- views
 
   -- the derived table that a view is, if it is one
-  abbrev IsFixedRows : List ℕ → Rows → Type 0
+  abbrev pub IsFixedRows : List ℕ → Rows → Type 0
   IsFixedRows name (rows.Stored number) = Unit {0}
   IsFixedRows name (rows.Derived table) =
       (known : IsKnownSource declared table) × HasFixedSource declared.views (scope_of declared.views known.source) name derived_at known.source.filters table
@@ -143,7 +143,7 @@ module _ (schema : Schema) (declared : Declared) (kinds : ViewKinds) where
       subst (λ n. IsFixedRows n v.rows) (sym is.name_is)
       (fixed_rows name items v.rows is.rows_are right.source (ap (λ n. faults.derived_findings declared n derived_at v.rows) (sym is.name_is) ∙ derived))
 
-  views_fixed : (P : ℕ → DeclaredView → Type 0) (n : ℕ) (objects : List Object) (views : List DeclaredView) → AreViews schema objects views
+  pub views_fixed : (P : ℕ → DeclaredView → Type 0) (n : ℕ) (objects : List Object) (views : List DeclaredView) → AreViews schema objects views
       → EachFrom (λ k v. (view_fault declared v ≡ None) × P k v) n views → AllByRecursion (IsRightView schema declared) views → AllByRecursion (λ v. IsFixedRows v.name v.rows) views
   views_fixed P n [] [] h fine right = tt
   views_fixed P n [] (v ∷ views) h fine right = absurd h

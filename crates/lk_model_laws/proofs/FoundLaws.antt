@@ -30,7 +30,7 @@ use Rattle.lk_model_laws.proofs.OwnNameLaws.{AreApart, names_apart, named_once}
 use Rattle.lk_model_laws.proofs.PlaceLaws.{part_below, there_exists}
 use Rattle.lk_model_laws.proofs.TextLaws as text
 
-got_at : {A : Type 0} (xs : List A) (k : ℕ) → k < length xs → (x : A) × (slice_get xs k ≡ Some x)
+pub got_at : {A : Type 0} (xs : List A) (k : ℕ) → k < length xs → (x : A) × (slice_get xs k ≡ Some x)
 got_at [] k less = absurd (omega arith)
 got_at (x ∷ xs) zero less = (x, refl)
 got_at (x ∷ xs) (suc k) less = got_at xs k (omega arith)

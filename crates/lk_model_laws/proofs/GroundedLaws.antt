@@ -83,10 +83,10 @@ mutual
 
 -- ---- numbers
 
-numbers_equal : IsEquality nat_eq
+pub numbers_equal : IsEquality nat_eq
 numbers_equal = record { itself = λ n. eq-eqb n n refl; exact = λ n k h. eqb-true n k h }
 
-below_there : (n k : ℕ) → k < n → has_number k (numbers_below n) ≡ true
+pub below_there : (n k : ℕ) → k < n → has_number k (numbers_below n) ≡ true
 below_there zero k less = absurd (omega arith)
 below_there (suc n) k less =
     elim (nat_eq k n) as (λ b. nat_eq k n ≡ b → has_number k (numbers_below n ++ n ∷ []) ≡ true) [

@@ -1,5 +1,5 @@
--- A model without derived tables: the conditions of its joins are yes or no.
-use Rattle.std.proofs.Common.{◌≡◌, true, false, ◌||◌, List, [], ◌∷◌, refl, sym, subst, None}
+-- The conditions of a model's joins are yes or no.
+use Rattle.std.proofs.Common.{◌≡◌, true, false, ◌||◌, List, [], ◌∷◌, sym, subst, None}
 use Rattle.std.specs.Prelude.{Ok, codes}
 use Rattle.std.specs.List.{AllByRecursion, list_all}
 use Rattle.lk_read.specs.declared.tree.Item.{Item}
@@ -26,11 +26,12 @@ use Rattle.lk_resolved.specs.Explores.{datagroup_number}
 use Rattle.lk_model.specs.Models.{model_of, names_of, resolved}
 use Rattle.lk_model.specs.ViewKinds.{columns_in, kinds_of}
 use Rattle.lk_model_laws.specs.Conditions.{has_condition, is_free}
+use Rattle.lk_model_laws.specs.Tables.{HavePlainTables}
 use Rattle.lk_model_laws.proofs.CodeLaws.{IsRightCode}
 use Rattle.lk_model_laws.proofs.DatedCodeLaws.{IsDatedCode, code_dated}
 use Rattle.lk_model_laws.proofs.JoinTypedLaws.{joins_typed, whole_joins_typed}
 use Rattle.lk_model_laws.proofs.KindModelLaws as kinds
-use Rattle.lk_model_laws.proofs.KindModelLaws.{IsFine, fine, stored_part}
+use Rattle.lk_model_laws.proofs.KindModelLaws.{IsFine, fine, part_settled}
 use Rattle.lk_model_laws.proofs.KnownKindLaws.{column_known, same_kinds}
 use Rattle.lk_model_laws.proofs.ListLaws.{all_every, all_map, all_more, all_with}
 use Rattle.lk_model_laws.proofs.PartLaws.{IsGiven}
@@ -71,7 +72,7 @@ module _ (schema : Schema) (merged : Merged) (declared : Declared) (objects : Ha
   abbrev HasConditions : DeclaredExplore → Type 0
   HasConditions x = AllByRecursion (λ (join : DeclaredJoin). has_condition join ≡ true) x.joins
 
-  module _ (stored : given.derived ≡ []) where
+  module _ (tables : HavePlainTables given declared) where
     module _ (x : DeclaredExplore) (is : IsReady x) where
       abbrev scope : Scope
       scope = scope_of declared.views x
@@ -87,15 +88,15 @@ module _ (schema : Schema) (merged : Merged) (declared : Declared) (objects : Ha
       joins_made : list_all (λ j. is_free j || is_typed_join (leaves_of given (made x)) j) (made x).joins ≡ true
       unfolding resolved
       joins_made =
-          joins_typed schema declared.views scope columns (leaves_of given (made x)) (column_known schema declared scope (stored_part schema merged declared objects none stored x is.0))
-          (same_kinds schema declared scope (stored_part schema merged declared objects none stored x is.0) given refl (datagroup_number (names_of declared.datagroups)) x)
+          joins_typed schema declared.views scope columns (leaves_of given (made x)) (column_known schema declared given scope (part_settled schema merged declared objects none tables x is.0))
+          (same_kinds schema declared given scope (part_settled schema merged declared objects none tables x is.0) (datagroup_number (names_of declared.datagroups)) x)
           (kinds.codes schema merged declared objects none) is.0.0.fields x.joins 1 x.joins given_joins is.0.0.joins is.0.0.join_conditions
 
       whole_made : HasConditions x → list_all (is_typed_join (leaves_of given (made x))) (made x).joins ≡ true
       unfolding resolved
       whole_made has =
-          whole_joins_typed schema declared.views scope columns (leaves_of given (made x)) (column_known schema declared scope (stored_part schema merged declared objects none stored x is.0))
-          (same_kinds schema declared scope (stored_part schema merged declared objects none stored x is.0) given refl (datagroup_number (names_of declared.datagroups)) x)
+          whole_joins_typed schema declared.views scope columns (leaves_of given (made x)) (column_known schema declared given scope (part_settled schema merged declared objects none tables x is.0))
+          (same_kinds schema declared given scope (part_settled schema merged declared objects none tables x is.0) (datagroup_number (names_of declared.datagroups)) x)
           (kinds.codes schema merged declared objects none) is.0.0.fields x.joins 1 x.joins given_joins has is.0.0.joins is.0.0.join_conditions
 
     all_joins : AllByRecursion (λ x. list_all (λ j. is_free j || is_typed_join (leaves_of given x) j) x.joins ≡ true) given.explores
@@ -108,21 +109,21 @@ module _ (schema : Schema) (merged : Merged) (declared : Declared) (objects : Ha
 
 -- ---- the model that a project resolves to
 
-module _ (schema : Schema) (merged : Merged) (model : Model) (h : HasModel schema merged (Ok model)) (stored : model.derived ≡ []) where
+module _ (schema : Schema) (merged : Merged) (model : Model) (h : HasModel schema merged (Ok model)) (tables : HavePlainTables model h.declared) where
   abbrev given_model : Model
   given_model = model_of schema h.declared (kinds_of schema h.declared)
 
-  none_derived : given_model.derived ≡ []
-  none_derived = subst (λ (m : Model). m.derived ≡ []) h.is_model.ok stored
+  given_tables : HavePlainTables given_model h.declared
+  given_tables = subst (λ m. HavePlainTables m h.declared) h.is_model.ok tables
 
   pub have_typed_joins : list_all (λ x. list_all (λ j. is_free j || is_typed_join (leaves_of model x) j) x.joins) model.explores ≡ true
   have_typed_joins =
       subst (λ m. list_all (λ x. list_all (λ j. is_free j || is_typed_join (leaves_of m x) j) x.joins) m.explores ≡ true) (sym h.is_model.ok)
       (all_every (λ (x : Explore). list_all (λ j. is_free j || is_typed_join (leaves_of given_model x) j) x.joins ≡ true) (λ x. list_all (λ j. is_free j || is_typed_join (leaves_of given_model x) j) x.joins) (λ x is. is) given_model.explores
-      (all_joins schema merged h.declared h.objects h.is_model.fault none_derived))
+      (all_joins schema merged h.declared h.objects h.is_model.fault given_tables))
 
   pub have_whole_joins : AllByRecursion (λ x. AllByRecursion (λ join. has_condition join ≡ true) x.joins) h.declared.explores → list_all (λ x. list_all (is_typed_join (leaves_of model x)) x.joins) model.explores ≡ true
   have_whole_joins has =
       subst (λ m. list_all (λ x. list_all (is_typed_join (leaves_of m x)) x.joins) m.explores ≡ true) (sym h.is_model.ok)
       (all_every (λ (x : Explore). list_all (is_typed_join (leaves_of given_model x)) x.joins ≡ true) (λ x. list_all (is_typed_join (leaves_of given_model x)) x.joins) (λ x is. is) given_model.explores
-      (all_whole schema merged h.declared h.objects h.is_model.fault none_derived has))
+      (all_whole schema merged h.declared h.objects h.is_model.fault given_tables has))

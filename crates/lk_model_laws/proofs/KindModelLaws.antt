@@ -1,6 +1,6 @@
--- A model without derived tables: its conditions and its dimensions have the kinds of their places.
-use Rattle.std.proofs.Common.{◌≡◌, ◌<◌, ℕ, zero, suc, true, false, ◌||◌, List, [], ◌∷◌, length, refl, sym, subst, Some, None, arith}
-use Rattle.std.specs.Prelude.{Ok, flat_map, slice_get}
+-- The conditions and the fields of a model have the kinds of their places.
+use Rattle.std.proofs.Common.{◌≡◌, ℕ, true, false, ◌||◌, List, [], ◌∷◌, length, sym, subst, Some, None}
+use Rattle.std.specs.Prelude.{Ok, slice_get}
 use Rattle.std.specs.List.{AllByRecursion, filter, list_all}
 use Rattle.lk_read.specs.declared.tree.Item.{Item}
 use Rattle.lk_types.specs.declared.explore.Explore.{Explore}
@@ -15,9 +15,6 @@ use Rattle.lk_objects.specs.declared.explore.DeclaredExplore.{DeclaredExplore}
 use Rattle.lk_objects.specs.declared.explore.ExploreFilter.{ExploreFilter}
 use Rattle.lk_objects.specs.declared.explore.ExploreFilter.TheVariants as explore_filter
 use Rattle.lk_objects.specs.declared.view.Declared.{Declared}
-use Rattle.lk_objects.specs.declared.view.DeclaredView.{DeclaredView}
-use Rattle.lk_objects.specs.declared.view.Rows.{Rows}
-use Rattle.lk_objects.specs.declared.view.Rows.TheVariants as rows
 use Rattle.lk_fields.specs.declared.scope.Scope.{Scope}
 use Rattle.lk_fields.specs.declared.scope.ScopePart.{ScopePart}
 use Rattle.lk_formulas.specs.declared.columns.ColumnKinds.{ColumnKinds}
@@ -28,8 +25,9 @@ use Rattle.lk_explore.specs.ExploreFilters.{AreExploreFilters, is_filter}
 use Rattle.lk_resolve.specs.Objects.{AreExplores, HasObjects}
 use Rattle.lk_resolve.specs.Resolving.{HasModel, first_fault}
 use Rattle.lk_resolved.specs.Explores.{datagroup_number}
-use Rattle.lk_model.specs.Models.{derived_of, derived_with, model_of, names_of, resolved}
+use Rattle.lk_model.specs.Models.{model_of, names_of, resolved}
 use Rattle.lk_model.specs.ViewKinds.{columns_in, kinds_of}
+use Rattle.lk_model_laws.specs.Tables.{HavePlainTables}
 use Rattle.lk_model_laws.specs.Typed.{is_open, is_raw}
 use Rattle.lk_model_laws.proofs.ColumnLaws.{columns_have}
 use Rattle.lk_model_laws.proofs.DatedCodeLaws.{HasDatedCodes, code_dated, dated_codes}
@@ -38,39 +36,18 @@ use Rattle.lk_model_laws.proofs.ExtremeTypedLaws.{HasCode, all_typed}
 use Rattle.lk_model_laws.proofs.FaultlessLaws.{IsClear}
 use Rattle.lk_model_laws.proofs.FieldTypedLaws.{fields_typed}
 use Rattle.lk_model_laws.proofs.KeyTypedLaws.{keys_typed}
-use Rattle.lk_model_laws.proofs.KnownKindLaws.{IsStored, IsStoredPart, column_known, same_kinds}
-use Rattle.lk_model_laws.proofs.ListLaws.{all_at, all_every, all_map, all_with}
+use Rattle.lk_model_laws.proofs.KnownKindLaws.{IsSettledPart, column_known, same_kinds}
+use Rattle.lk_model_laws.proofs.ListLaws.{all_every, all_map, all_with}
 use Rattle.lk_model_laws.proofs.MeasureTypedLaws.{measures_typed}
-use Rattle.lk_model_laws.proofs.ModelLaws.{clear, codes_right, known_parts, views_right}
+use Rattle.lk_model_laws.proofs.ModelLaws.{clear, codes_right}
 use Rattle.lk_model_laws.proofs.NamesTypedLaws.{all_names_numbers}
-use Rattle.lk_model_laws.proofs.PartLaws.{AreKnownRows}
-use Rattle.lk_model_laws.proofs.PieceLaws.{nil_left, nil_right}
 use Rattle.lk_model_laws.proofs.RawTypedLaws.{all_fields_typed}
+use Rattle.lk_model_laws.proofs.SettledModelLaws.{settled_part}
 use Rattle.lk_model_laws.proofs.SortedCodeLaws.{HasSortedCode, sorted_codes}
 use Rattle.lk_model_laws.proofs.TierLaws.{HasBounds, bounded_views, fields_fine}
 use Rattle.lk_model_laws.proofs.TypedLaws.{IsDatedFilter, where_typed}
-use Rattle.lk_model_laws.proofs.ViewObjectLaws.{AreRightCodes, IsRightView, nil_no}
+use Rattle.lk_model_laws.proofs.ViewObjectLaws.{AreRightCodes}
 use Rattle.lk_model_laws.proofs.WholeExploreLaws.{placed_field}
-
--- ---- stored rows
-
-there_at : {A : Type 0} (xs : List A) (k : ℕ) → k < length xs → (z : A) × (slice_get xs k ≡ Some z)
-there_at [] k less = absurd (omega arith)
-there_at (z ∷ xs) zero less = (z, refl)
-there_at (z ∷ xs) (suc k) less = there_at xs k (omega arith)
-
-module _ (schema : Schema) (declared : Declared) where
-  view_stored : (v : DeclaredView) (r : Rows) → v.rows ≡ r → AreKnownRows schema r → derived_with declared v.name r ≡ [] → IsStored schema v
-  view_stored v (rows.Stored (Some n)) is known none = let table = there_at schema.tables n known in record { number = n; rows_are = is; table = table.0; at = table.1 }
-  view_stored v (rows.Stored None) is known none = absurd known
-  view_stored v (rows.Derived table) is known none = absurd (nil_no _ [] none)
-
-  views_stored : (views : List DeclaredView) → AllByRecursion (IsRightView schema declared) views → flat_map (derived_of declared) views ≡ [] → AllByRecursion (IsStored schema) views
-  views_stored [] right none = tt
-  views_stored (v ∷ views) right none = (
-    view_stored v v.rows refl right.0.known (nil_left (derived_of declared v) (flat_map (derived_of declared) views) none),
-    views_stored views right.1 (nil_right (derived_of declared v) (flat_map (derived_of declared) views) none),
-  )
 
 -- ---- filters of explores
 
@@ -116,10 +93,7 @@ module _ (schema : Schema) (merged : Merged) (declared : Declared) (objects : Ha
       (all_with (IsRightExplore declared.datagroups) (λ x. AllByRecursion IsDatedFilter x.filters) declared.explores
       (right_explores schema declared (kinds_of schema declared) merged.explores declared.explores objects.explores_are clear_ones) (explores_dated merged.explores declared.explores objects.explores_are))
 
-  module _ (stored : given.derived ≡ []) where
-    stored_views : AllByRecursion (IsStored schema) declared.views
-    stored_views = views_stored schema declared declared.views (views_right schema merged declared objects none) stored
-
+  module _ (tables : HavePlainTables given declared) where
     module _ (x : DeclaredExplore) (is : IsFine x) where
       abbrev scope : Scope
       scope = scope_of declared.views x
@@ -127,54 +101,52 @@ module _ (schema : Schema) (merged : Merged) (declared : Declared) (objects : Ha
       abbrev columns : ColumnKinds
       columns = columns_in (kinds_of schema declared) scope
 
-      pub stored_part : (k : ℕ) (part : ScopePart) → slice_get scope.parts k ≡ Some part → IsStoredPart schema declared part
-      stored_part k part at =
-          let known = known_parts schema declared (kinds_of schema declared) (views_right schema merged declared objects none) x is.0 is.1.0 k part at in
-          record { number = known.number; view = known.view; named = known.named; at = known.at; stored = all_at (IsStored schema) declared.views stored_views known.number known.view known.at }
+      pub part_settled : (k : ℕ) (part : ScopePart) → slice_get scope.parts k ≡ Some part → IsSettledPart schema declared given (length declared.views) part
+      part_settled = settled_part schema merged declared objects none tables x (is.0, is.1.0)
 
       where_made : is_none_or_typed (leaves_of given (made x)) kind.Truth (made x).always_where ≡ true
       unfolding resolved
       where_made =
-          where_typed schema declared.views scope columns (leaves_of given (made x)) (column_known schema declared scope stored_part)
-          (same_kinds schema declared scope stored_part given refl (datagroup_number (names_of declared.datagroups)) x) codes x.name x.filters is.1.1 is.0.filter_conditions
+          where_typed schema declared.views scope columns (leaves_of given (made x)) (column_known schema declared given scope part_settled)
+          (same_kinds schema declared given scope part_settled (datagroup_number (names_of declared.datagroups)) x) codes x.name x.filters is.1.1 is.0.filter_conditions
 
       fields_made : list_all (λ f. is_raw f.shape || is_typed_field (leaves_of given (made x)) f) (made x).fields ≡ true
       unfolding resolved
       fields_made =
-          fields_typed schema declared.views scope columns (leaves_of given (made x)) (column_known schema declared scope stored_part)
-          (same_kinds schema declared scope stored_part given refl (datagroup_number (names_of declared.datagroups)) x) codes bounds is.0.fields
+          fields_typed schema declared.views scope columns (leaves_of given (made x)) (column_known schema declared given scope part_settled)
+          (same_kinds schema declared given scope part_settled (datagroup_number (names_of declared.datagroups)) x) codes bounds is.0.fields
 
       keys_made : list_all (has_typed_key (leaves_of given (made x))) (made x).parts ≡ true
       unfolding resolved
       keys_made =
-          keys_typed schema declared.views scope columns (leaves_of given (made x)) (column_known schema declared scope stored_part)
-          (same_kinds schema declared scope stored_part given refl (datagroup_number (names_of declared.datagroups)) x) codes sorted is.0.fields 0 scope.parts
+          keys_typed schema declared.views scope columns (leaves_of given (made x)) (column_known schema declared given scope part_settled)
+          (same_kinds schema declared given scope part_settled (datagroup_number (names_of declared.datagroups)) x) codes sorted is.0.fields 0 scope.parts
 
       measures_made : list_all (λ n. is_open n.op || is_typed_measure (leaves_of given (made x)) n) (made x).measures ≡ true
       unfolding resolved
       measures_made =
-          measures_typed schema declared.views scope columns (leaves_of given (made x)) (column_known schema declared scope stored_part)
-          (same_kinds schema declared scope stored_part given refl (datagroup_number (names_of declared.datagroups)) x) codes sorted is.0.fields
+          measures_typed schema declared.views scope columns (leaves_of given (made x)) (column_known schema declared given scope part_settled)
+          (same_kinds schema declared given scope part_settled (datagroup_number (names_of declared.datagroups)) x) codes sorted is.0.fields
 
       coded_made : AllByRecursion (λ v. AllByRecursion HasCode v.fields) declared.views → list_all (is_typed_measure (leaves_of given (made x))) (made x).measures ≡ true
       unfolding resolved
       coded_made coded =
-          all_typed schema declared.views scope columns (leaves_of given (made x)) (column_known schema declared scope stored_part)
-          (same_kinds schema declared scope stored_part given refl (datagroup_number (names_of declared.datagroups)) x) codes sorted
+          all_typed schema declared.views scope columns (leaves_of given (made x)) (column_known schema declared given scope part_settled)
+          (same_kinds schema declared given scope part_settled (datagroup_number (names_of declared.datagroups)) x) codes sorted
           (columns_have schema declared (kinds_of schema declared) (clear schema merged declared objects none)) coded is.0.fields
 
       dimensions_made : AllByRecursion (λ v. AllByRecursion HasCode v.fields) declared.views → list_all (is_typed_field (leaves_of given (made x))) (made x).fields ≡ true
       unfolding resolved
       dimensions_made coded =
-          all_fields_typed schema declared.views scope columns (leaves_of given (made x)) (column_known schema declared scope stored_part)
-          (same_kinds schema declared scope stored_part given refl (datagroup_number (names_of declared.datagroups)) x) codes sorted bounds
+          all_fields_typed schema declared.views scope columns (leaves_of given (made x)) (column_known schema declared given scope part_settled)
+          (same_kinds schema declared given scope part_settled (datagroup_number (names_of declared.datagroups)) x) codes sorted bounds
           (columns_have schema declared (kinds_of schema declared) (clear schema merged declared objects none)) coded is.0.fields
 
       names_made : list_all (names_numbers (made x)) (made x).measures ≡ true
       unfolding resolved
       names_made =
-          all_names_numbers schema declared.views scope columns (leaves_of given (made x)) (column_known schema declared scope stored_part)
-          (same_kinds schema declared scope stored_part given refl (datagroup_number (names_of declared.datagroups)) x) codes sorted is.0.fields (datagroup_number (names_of declared.datagroups)) x
+          all_names_numbers schema declared.views scope columns (leaves_of given (made x)) (column_known schema declared given scope part_settled)
+          (same_kinds schema declared given scope part_settled (datagroup_number (names_of declared.datagroups)) x) codes sorted is.0.fields (datagroup_number (names_of declared.datagroups)) x
           (λ place field at. (placed_field AreRightCodes declared.views (codes_right schema merged declared objects none) scope place field at).0.1)
 
     pub wheres : AllByRecursion (λ x. is_none_or_typed (leaves_of given x) kind.Truth x.always_where ≡ true) given.explores
@@ -200,51 +172,51 @@ module _ (schema : Schema) (merged : Merged) (declared : Declared) (objects : Ha
 
 -- ---- the model that a project resolves to
 
-module _ (schema : Schema) (merged : Merged) (model : Model) (h : HasModel schema merged (Ok model)) (stored : model.derived ≡ []) where
+module _ (schema : Schema) (merged : Merged) (model : Model) (h : HasModel schema merged (Ok model)) (tables : HavePlainTables model h.declared) where
   abbrev given_model : Model
   given_model = model_of schema h.declared (kinds_of schema h.declared)
 
-  none_derived : given_model.derived ≡ []
-  none_derived = subst (λ (m : Model). m.derived ≡ []) h.is_model.ok stored
+  given_tables : HavePlainTables given_model h.declared
+  given_tables = subst (λ m. HavePlainTables m h.declared) h.is_model.ok tables
 
   pub have_truths : list_all (λ x. is_none_or_typed (leaves_of model x) kind.Truth x.always_where) model.explores ≡ true
   have_truths =
       subst (λ m. list_all (λ x. is_none_or_typed (leaves_of m x) kind.Truth x.always_where) m.explores ≡ true) (sym h.is_model.ok)
       (all_every (λ (x : Explore). is_none_or_typed (leaves_of given_model x) kind.Truth x.always_where ≡ true) (λ x. is_none_or_typed (leaves_of given_model x) kind.Truth x.always_where) (λ x is. is) given_model.explores
-      (wheres schema merged h.declared h.objects h.is_model.fault none_derived))
+      (wheres schema merged h.declared h.objects h.is_model.fault given_tables))
 
   pub have_typed_fields : list_all (λ x. list_all (λ f. is_raw f.shape || is_typed_field (leaves_of model x) f) x.fields) model.explores ≡ true
   have_typed_fields =
       subst (λ m. list_all (λ x. list_all (λ f. is_raw f.shape || is_typed_field (leaves_of m x) f) x.fields) m.explores ≡ true) (sym h.is_model.ok)
       (all_every (λ (x : Explore). list_all (λ f. is_raw f.shape || is_typed_field (leaves_of given_model x) f) x.fields ≡ true) (λ x. list_all (λ f. is_raw f.shape || is_typed_field (leaves_of given_model x) f) x.fields) (λ x is. is) given_model.explores
-      (all_fields schema merged h.declared h.objects h.is_model.fault none_derived))
+      (all_fields schema merged h.declared h.objects h.is_model.fault given_tables))
 
   pub have_typed_keys : list_all (λ x. list_all (has_typed_key (leaves_of model x)) x.parts) model.explores ≡ true
   have_typed_keys =
       subst (λ m. list_all (λ x. list_all (has_typed_key (leaves_of m x)) x.parts) m.explores ≡ true) (sym h.is_model.ok)
       (all_every (λ (x : Explore). list_all (has_typed_key (leaves_of given_model x)) x.parts ≡ true) (λ x. list_all (has_typed_key (leaves_of given_model x)) x.parts) (λ x is. is) given_model.explores
-      (all_keys schema merged h.declared h.objects h.is_model.fault none_derived))
+      (all_keys schema merged h.declared h.objects h.is_model.fault given_tables))
 
   pub have_typed_measures : list_all (λ x. list_all (λ n. is_open n.op || is_typed_measure (leaves_of model x) n) x.measures) model.explores ≡ true
   have_typed_measures =
       subst (λ m. list_all (λ x. list_all (λ n. is_open n.op || is_typed_measure (leaves_of m x) n) x.measures) m.explores ≡ true) (sym h.is_model.ok)
       (all_every (λ (x : Explore). list_all (λ n. is_open n.op || is_typed_measure (leaves_of given_model x) n) x.measures ≡ true) (λ x. list_all (λ n. is_open n.op || is_typed_measure (leaves_of given_model x) n) x.measures) (λ x is. is) given_model.explores
-      (all_measures schema merged h.declared h.objects h.is_model.fault none_derived))
+      (all_measures schema merged h.declared h.objects h.is_model.fault given_tables))
 
   pub have_number_names : list_all (λ x. list_all (names_numbers x) x.measures) model.explores ≡ true
   have_number_names =
       subst (λ (m : Model). list_all (λ x. list_all (names_numbers x) x.measures) m.explores ≡ true) (sym h.is_model.ok)
       (all_every (λ (x : Explore). list_all (names_numbers x) x.measures ≡ true) (λ x. list_all (names_numbers x) x.measures) (λ x is. is) given_model.explores
-      (all_names schema merged h.declared h.objects h.is_model.fault none_derived))
+      (all_names schema merged h.declared h.objects h.is_model.fault given_tables))
 
   pub have_coded_measures : AllByRecursion (λ v. AllByRecursion HasCode v.fields) h.declared.views → list_all (λ x. list_all (is_typed_measure (leaves_of model x)) x.measures) model.explores ≡ true
   have_coded_measures coded =
       subst (λ m. list_all (λ x. list_all (is_typed_measure (leaves_of m x)) x.measures) m.explores ≡ true) (sym h.is_model.ok)
       (all_every (λ (x : Explore). list_all (is_typed_measure (leaves_of given_model x)) x.measures ≡ true) (λ x. list_all (is_typed_measure (leaves_of given_model x)) x.measures) (λ x is. is) given_model.explores
-      (all_coded schema merged h.declared h.objects h.is_model.fault none_derived coded))
+      (all_coded schema merged h.declared h.objects h.is_model.fault given_tables coded))
 
   pub have_coded_dimensions : AllByRecursion (λ v. AllByRecursion HasCode v.fields) h.declared.views → list_all (λ x. list_all (is_typed_field (leaves_of model x)) x.fields) model.explores ≡ true
   have_coded_dimensions coded =
       subst (λ m. list_all (λ x. list_all (is_typed_field (leaves_of m x)) x.fields) m.explores ≡ true) (sym h.is_model.ok)
       (all_every (λ (x : Explore). list_all (is_typed_field (leaves_of given_model x)) x.fields ≡ true) (λ x. list_all (is_typed_field (leaves_of given_model x)) x.fields) (λ x is. is) given_model.explores
-      (all_dimensions schema merged h.declared h.objects h.is_model.fault none_derived coded))
+      (all_dimensions schema merged h.declared h.objects h.is_model.fault given_tables coded))

@@ -24,6 +24,7 @@ pub mod ViewObjectLaws
 pub mod ExploreObjectLaws
 pub mod CycleLaws
 pub mod TierLaws
+pub mod StoredLaws
 pub mod ModelLaws
 pub mod FilterLaws
 pub mod ComponentLaws
@@ -37,7 +38,6 @@ pub mod SameFormulaLaws
 pub mod KnownKindLaws
 pub mod TypedLaws
 pub mod FieldTypedLaws
-pub mod KindModelLaws
 pub mod SortedCodeLaws
 pub mod MeasureTypedLaws
 pub mod KeyTypedLaws
@@ -51,6 +51,21 @@ pub mod FoundLaws
 pub mod FilterKindLaws
 pub mod RawTimeLaws
 pub mod MadeNameLaws
+pub mod ExploreNameLaws
+pub mod MentionedLaws
+pub mod DependLaws
+pub mod ShownCodeLaws
+pub mod SameCountLaws
+pub mod AllKnownLaws
+pub mod KnownTypeLaws
+pub mod RankLaws
+pub mod AskedLaws
+pub mod TakenKindLaws
+pub mod TestedFieldLaws
+pub mod PickLaws
+pub mod SettledLaws
+pub mod SettledModelLaws
+pub mod KindModelLaws
 pub mod FilterModelLaws
 pub mod KeyConditionLaws
 pub mod JoinTypedLaws

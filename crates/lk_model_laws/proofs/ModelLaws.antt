@@ -23,7 +23,7 @@ use Rattle.lk_semantics.specs.Reading.{explore_datagroups, reads_itself}
 use Rattle.lk_semantics.specs.Resolved.{HasGroupsOfOnePart, are_one, has_exact_keys, has_grounded_measures, has_part_for_each_join, has_tiers, has_whole_forms, is_numbered, is_numbered_datagroup, is_numbered_derived, is_numbered_explore, may_be_derived}
 use Rattle.lk_semantics.proofs.EveryLaws.{Every, both}
 use Rattle.lk_stored.specs.StoredFaults.{stored_fault}
-use Rattle.lk_validate.proofs.StoredLaws.{follows-acyclic, follows-derived, follows-one_datagroup, follows-stored, may_be_kept}
+use Rattle.lk_model_laws.proofs.StoredLaws.{follows-acyclic, follows-derived, follows-one_datagroup, follows-stored, may_be_kept}
 use Rattle.lk_resolved.specs.Explores.{datagroup_number}
 use Rattle.lk_model.specs.Counts.{counts_fault}
 use Rattle.lk_model.specs.Faults.{fields_line_in, objects_fault}

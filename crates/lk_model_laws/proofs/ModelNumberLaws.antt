@@ -43,7 +43,7 @@ use Rattle.lk_model_laws.proofs.PieceLaws.{some_none}
 
 -- ---- the numbers of derived tables
 
-count_cons : {A : Type 0} (p : A → Bool) (x : A) (xs : List A) → count_by p (x ∷ xs) ≡ cond (p x) 1 0 + count_by p xs
+pub count_cons : {A : Type 0} (p : A → Bool) (x : A) (xs : List A) → count_by p (x ∷ xs) ≡ cond (p x) 1 0 + count_by p xs
 count_cons p x xs = sum_by-cons (λ y. cond (p y) 1 0) x xs
 
 one_of : (b : Bool) → b ≡ true → cond {A = ℕ} b 1 0 ≡ 1

@@ -1,6 +1,6 @@
 // Laws of the model that `resolve` gives. Each is a function that computes nothing: its clauses are the law.
 
-ghost use Rattle.std.specs.Prelude.{◌≡◌, ℕ, ◌||◌, List, [], Ok, length, nat_le, not, true};
+ghost use Rattle.std.specs.Prelude.{◌≡◌, ℕ, ◌||◌, List, Ok, length, nat_le, not, true};
 ghost use Rattle.std.specs.List.{AllByRecursion, list_all};
 ghost use Rattle.lk_types.specs.declared.model.Model.{Model};
 ghost use Rattle.lk_types.specs.declared.schema.Kind.TheVariants as kind;
@@ -15,6 +15,7 @@ ghost use Rattle.lk_resolve.specs.Resolving.{HasModel};
 ghost use Rattle.lk_model_laws.specs.Conditions.{has_condition, is_free};
 ghost use Rattle.lk_model_laws.specs.Named.{has_own_names};
 ghost use Rattle.lk_model_laws.specs.Spelled.{are_spelled};
+ghost use Rattle.lk_model_laws.specs.Tables.{HavePlainTables};
 ghost use Rattle.lk_model_laws.specs.Typed.{has_code, has_raw_times, is_open, is_raw};
 
 /// The explores of a model that effective objects give without a fault have at most 31 joins, and one view more than joins.
@@ -66,31 +67,32 @@ pub fn tiers_ascend()
         → list_all (λ x. list_all (λ f. has_tiers f.shape) x.fields) model.explores ≡ true }
 {}
 
-/// In such a model without derived tables each key has some kind, each dimension has the kind that its shape makes of its
-/// expression, each measure has what its type computes with, each measure of type number is over numbers, and each default
-/// condition is yes or no. Of raw times and of the types min, max and number the second and the third are not claimed. A law: it
-/// computes nothing. (Looker, LookML reference: dimension, dimension_group, measure types, sql_always_where)
+/// In such a model each key has some kind, each dimension has the kind that its shape makes of its expression, each measure has what
+/// its type computes with, each measure of type number is over numbers, and each default condition is yes or no. Of raw times and of
+/// the types min, max and number the second and the third are not claimed. Where it has derived tables, the views of each explore
+/// have names of their own, and each field that is declared has the code that its type takes. A law: it computes nothing. (Looker,
+/// LookML reference: dimension, dimension_group, measure types, sql_always_where)
 pub fn expressions_have_their_kinds()
-    ensures keys { (schema : Schema) (merged : Merged) (model : Model) → HasModel schema merged (Ok model) → model.derived ≡ []
+    ensures keys { (schema : Schema) (merged : Merged) (model : Model) (h : HasModel schema merged (Ok model)) → HavePlainTables model h.declared
         → list_all (λ x. list_all (has_typed_key (leaves_of model x)) x.parts) model.explores ≡ true }
-    ensures dimensions { (schema : Schema) (merged : Merged) (model : Model) → HasModel schema merged (Ok model) → model.derived ≡ []
+    ensures dimensions { (schema : Schema) (merged : Merged) (model : Model) (h : HasModel schema merged (Ok model)) → HavePlainTables model h.declared
         → list_all (λ x. list_all (λ f. is_raw f.shape || is_typed_field (leaves_of model x) f) x.fields) model.explores ≡ true }
-    ensures measures { (schema : Schema) (merged : Merged) (model : Model) → HasModel schema merged (Ok model) → model.derived ≡ []
+    ensures measures { (schema : Schema) (merged : Merged) (model : Model) (h : HasModel schema merged (Ok model)) → HavePlainTables model h.declared
         → list_all (λ x. list_all (λ n. is_open n.op || is_typed_measure (leaves_of model x) n) x.measures) model.explores ≡ true }
-    ensures calculations { (schema : Schema) (merged : Merged) (model : Model) → HasModel schema merged (Ok model) → model.derived ≡ []
+    ensures calculations { (schema : Schema) (merged : Merged) (model : Model) (h : HasModel schema merged (Ok model)) → HavePlainTables model h.declared
         → list_all (λ x. list_all (names_numbers x) x.measures) model.explores ≡ true }
-    ensures conditions { (schema : Schema) (merged : Merged) (model : Model) → HasModel schema merged (Ok model) → model.derived ≡ []
+    ensures conditions { (schema : Schema) (merged : Merged) (model : Model) (h : HasModel schema merged (Ok model)) → HavePlainTables model h.declared
         → list_all (λ x. is_none_or_typed (leaves_of model x) kind.Truth x.always_where) model.explores ≡ true }
 {}
 
-/// In such a model without derived tables each dimension has the kind that its shape makes of its expression, and each measure has
-/// what its type computes with, where each field that is declared has the code that its type takes. A law: it computes nothing.
-/// (Looker, LookML reference: dimension, dimension_group, measure types)
+/// In such a model each dimension has the kind that its shape makes of its expression, and each measure has what its type computes
+/// with, where each field that is declared has the code that its type takes, and, if there are derived tables, the views of each
+/// explore have names of their own. A law: it computes nothing. (Looker, LookML reference: dimension, dimension_group, measure types)
 pub fn fields_have_their_kinds()
-    ensures dimensions { (schema : Schema) (merged : Merged) (model : Model) (h : HasModel schema merged (Ok model)) → model.derived ≡ []
+    ensures dimensions { (schema : Schema) (merged : Merged) (model : Model) (h : HasModel schema merged (Ok model)) → HavePlainTables model h.declared
         → AllByRecursion (λ v. AllByRecursion (λ f. has_code f.sort f.sql ≡ true) v.fields) h.declared.views
         → list_all (λ x. list_all (is_typed_field (leaves_of model x)) x.fields) model.explores ≡ true }
-    ensures measures { (schema : Schema) (merged : Merged) (model : Model) (h : HasModel schema merged (Ok model)) → model.derived ≡ []
+    ensures measures { (schema : Schema) (merged : Merged) (model : Model) (h : HasModel schema merged (Ok model)) → HavePlainTables model h.declared
         → AllByRecursion (λ v. AllByRecursion (λ f. has_code f.sort f.sql ≡ true) v.fields) h.declared.views
         → list_all (λ x. list_all (is_typed_measure (leaves_of model x)) x.measures) model.explores ≡ true }
 {}
@@ -119,9 +121,9 @@ pub fn stored_queries_are_fixed()
 {}
 
 /// Each filter of such a model is a filter of the kind of the dimension that it is on, where the views of each explore have names
-/// of their own without a dot, and each raw time is a day or a moment. Without derived tables the latter is so where each field
-/// that is declared has the code that its type takes. A law: it computes nothing. (Looker, LookML reference: filters,
-/// always_filter, aggregate_table, derived_table)
+/// of their own without a dot, and each raw time is a day or a moment. The latter is so where each field that is declared has the
+/// code that its type takes, and, if there are derived tables, the former holds. A law: it computes nothing. (Looker, LookML
+/// reference: filters, always_filter, aggregate_table, derived_table)
 pub fn filters_are_of_their_fields()
     ensures explores { (schema : Schema) (merged : Merged) (model : Model) → HasModel schema merged (Ok model)
         → list_all has_own_names model.explores ≡ true → list_all has_raw_times model.explores ≡ true
@@ -129,18 +131,19 @@ pub fn filters_are_of_their_fields()
     ensures derived { (schema : Schema) (merged : Merged) (model : Model) → HasModel schema merged (Ok model)
         → list_all has_own_names model.explores ≡ true → list_all has_raw_times model.explores ≡ true
         → list_all (has_typed_sources model) model.derived ≡ true }
-    ensures times { (schema : Schema) (merged : Merged) (model : Model) (h : HasModel schema merged (Ok model)) → model.derived ≡ []
+    ensures times { (schema : Schema) (merged : Merged) (model : Model) (h : HasModel schema merged (Ok model)) → HavePlainTables model h.declared
         → AllByRecursion (λ v. AllByRecursion (λ f. has_code f.sort f.sql ≡ true) v.fields) h.declared.views
         → list_all has_raw_times model.explores ≡ true }
 {}
 
-/// In such a model without derived tables a cross join has no condition, and that of each other join is yes or no, if it has one.
-/// Each has one where each join that is declared has an expression or a key as its condition. A law: it computes nothing. (Looker,
-/// LookML reference: sql_on, foreign_key)
+/// In such a model a cross join has no condition, and that of each other join is yes or no, if it has one. Each has one where each
+/// join that is declared has an expression or a key as its condition. Where it has derived tables, the views of each explore have
+/// names of their own, and each field that is declared has the code that its type takes. A law: it computes nothing. (Looker, LookML
+/// reference: sql_on, foreign_key)
 pub fn joins_have_their_conditions()
-    ensures joins { (schema : Schema) (merged : Merged) (model : Model) → HasModel schema merged (Ok model) → model.derived ≡ []
+    ensures joins { (schema : Schema) (merged : Merged) (model : Model) (h : HasModel schema merged (Ok model)) → HavePlainTables model h.declared
         → list_all (λ x. list_all (λ j. is_free j || is_typed_join (leaves_of model x) j) x.joins) model.explores ≡ true }
-    ensures conditions { (schema : Schema) (merged : Merged) (model : Model) (h : HasModel schema merged (Ok model)) → model.derived ≡ []
+    ensures conditions { (schema : Schema) (merged : Merged) (model : Model) (h : HasModel schema merged (Ok model)) → HavePlainTables model h.declared
         → AllByRecursion (λ x. AllByRecursion (λ j. has_condition j ≡ true) x.joins) h.declared.explores
         → list_all (λ x. list_all (is_typed_join (leaves_of model x)) x.joins) model.explores ≡ true }
 {}
@@ -156,9 +159,9 @@ pub fn spelled_objects_suffice()
         → list_all has_own_names model.explores ≡ true }
 {}
 
-/// Over effective objects that texts spell and a schema that is read from a text, such a model without derived tables is resolved.
-/// A law: it computes nothing. (lookd)
+/// Over effective objects that texts spell and a schema that is read from a text, such a model is resolved. A law: it computes
+/// nothing. (lookd)
 pub fn models_are_resolved()
     ensures { (text : List ℕ) (schema : Schema) (merged : Merged) (model : Model) → schema_of text ≡ Ok schema
-        → HasModel schema merged (Ok model) → are_spelled merged ≡ true → model.derived ≡ [] → IsResolved model }
+        → HasModel schema merged (Ok model) → are_spelled merged ≡ true → IsResolved model }
 {}

@@ -7,6 +7,7 @@ use Rattle.lk_io.specs.declared.files.File.{File}
 use Rattle.lk_types.specs.declared.model.Model.{Model}
 use Rattle.lk_types.specs.declared.schema.Schema.{Schema}
 use Rattle.lk_include.specs.Gathering.{gathered}
+use Rattle.lk_include.specs.Reading.{AreRead}
 use Rattle.lk_include.specs.declared.project.Project.{Project}
 use Rattle.lk_include.specs.declared.project.ProjectFault.{ProjectFault}
 use Rattle.lk_include.specs.declared.project.ProjectFault.TheVariants as project
@@ -46,6 +47,12 @@ AfterSchema p (Ok schema) result = AfterUsers p schema (users_of p.users) result
 -- the schema's fault goes before the users', and that before those of merging and of the objects
 abbrev pub IsLoaded : Project → Result Loaded ModelFault → Type 0
 IsLoaded p result = AfterSchema p (schema_of p.schema) result
+
+-- some project loads so whose trees are those of texts
+pub record IsLoadedFromTexts (loaded : Loaded) : Type 0 where
+  pub project : Project
+  pub are_read : AreRead project.trees
+  pub is_loaded : IsLoaded project (Ok loaded)
 
 -- ---- a folder's files
 

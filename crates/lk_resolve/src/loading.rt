@@ -1,9 +1,9 @@
-ghost use Rattle.std.specs.Prelude.{◌≡◌, IfSome};
+ghost use Rattle.std.specs.Prelude.{◌≡◌, IfOk, IfSome};
 ghost use Rattle.lk_val.specs.Memory.{UnlessMemory, is_no_memory};
 ghost use Rattle.lk_include.specs.Causes.{HasProjectCause, is_outside};
 ghost use Rattle.lk_merge.specs.Merging.{fault_of, merged_of};
 ghost use Rattle.lk_schema.specs.Users.{users_of};
-ghost use Rattle.lk_resolve.specs.Loading.{AfterMerging, AfterSchema, AfterUsers, IsLoadOf, IsLoaded, loaded_as};
+ghost use Rattle.lk_resolve.specs.Loading.{AfterMerging, AfterSchema, AfterUsers, IsLoadOf, IsLoaded, IsLoadedFromTexts, loaded_as};
 
 use crate::resolving::resolve;
 use lk_io::Files;
@@ -25,6 +25,7 @@ pub struct Loaded {
 /// finds. It changes none of the files. (Looker, LookML reference; lookd)
 pub fn load<F: Files>(alloc: Global, files: &mut F) -> Result<Loaded, ProjectFault>
     ensures loaded { IfSome (F.told files.old) (λ told. UnlessMemory is_outside result (IsLoadOf told)) }
+    ensures read { IfOk result IsLoadedFromTexts }
     ensures same { F.told files.new ≡ F.told files.old }
     ensures cause { HasProjectCause (F.faults files.old) (F.faults files.new) result }
 {

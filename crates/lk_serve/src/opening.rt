@@ -1,10 +1,11 @@
-ghost use Rattle.std.specs.Prelude.{◌≡◌, ◌<◌, ◌≤◌, List, Err, IfErr, IfOk, IfSome, Ok, OnOk, Some, length, true, false};
+ghost use Rattle.std.specs.Prelude.{◌≡◌, ◌<◌, ◌≤◌, [], List, Err, IfErr, IfOk, IfSome, Ok, OnOk, Some, length, true, false};
 ghost use Rattle.std.specs.List.{All};
 ghost use Rattle.std.specs.Option.{option_map};
 ghost use Rattle.lk_io.specs.Causes.{Rose};
 ghost use Rattle.lk_io.specs.Moments.{later};
 ghost use Rattle.lk_val.specs.Years.{IsMomentInYears};
 ghost use Rattle.lk_types.specs.Printing.{value_text};
+ghost use Rattle.lk_semantics.specs.Resolved.{IsResolved};
 ghost use Rattle.lk_seed.specs.Seeds.{Seed, seeds_of};
 ghost use Rattle.lk_edition.specs.Offices.{AreSeeds, Begins, IsOpening, standing_in};
 ghost use Rattle.lk_edition.specs.Standings.{IsAnswerable, IsServed};
@@ -28,7 +29,6 @@ use lk_seed::{read_seeds, seed_fault};
 use lk_table::BatchFault;
 use lk_types::{Model, Shape, print_cell};
 use lk_val::{Bytes, Cell, FaultLine, Items, ModelFault, NoMemory, Text, Value};
-use lk_validate::is_resolved;
 use std::alloc::Global;
 
 /// What a project is opened for: queries alone, over any resolved model all of whose tables are stored; or all requests, over
@@ -323,6 +323,7 @@ fn read_batches<F: Files>(
     loaded: Loaded,
     service: Service,
 ) -> Result<Opening, Why>
+    requires { loaded.model.derived ≡ [] → IsResolved loaded.model }
     ensures loaded { IfOk result (λ opening. opening.loaded ≡ loaded) }
     ensures batches { IfSome (F.told files.old) (λ told. IfOk result (λ opening. (found : List Seed)
         × (Ok found ≡ seeds_of loaded.model.schema.tables told) × (opening.seeds.items ≡ numbered 0 found))) }
@@ -335,7 +336,7 @@ fn read_batches<F: Files>(
     ensures never { IfErr result (λ why. why ≡ Why.Store → ⊥) }
     ensures same { F.told files.new ≡ F.told files.old }
 {
-    if !is_servable(alloc, &loaded.model, service)? {
+    if !is_servable(&loaded.model, service) {
         return Err(Why::Told(unanswered(alloc)?));
     }
     match read_seeds(alloc, files, &loaded.model.schema) {
@@ -348,36 +349,33 @@ fn read_batches<F: Files>(
 }
 
 // Whether a model is served so.
-fn is_servable(alloc: Global, m: &Model, service: Service) -> Result<bool, NoMemory>
-    ensures yes { IfOk result (λ is. is ≡ true → IsServable service m.now) }
-    ensures no { IfOk result (λ is. is ≡ false → IsServable service m.now → ⊥) }
+fn is_servable(m: &Model, service: Service) -> bool
+    requires { m.now.derived ≡ [] → IsResolved m.now }
+    ensures yes { result ≡ true → IsServable service m.now }
+    ensures no { result ≡ false → IsServable service m.now → ⊥ }
 {
     match service {
-        Service::Queries => is_answerable(alloc, m),
-        Service::Requests => is_served(alloc, m),
+        Service::Queries => is_answerable(m),
+        Service::Requests => is_served(m),
     }
 }
 
-// Whether queries are answered over a model: it is a resolved one, and all its tables are stored.
-fn is_answerable(alloc: Global, m: &Model) -> Result<bool, NoMemory>
-    ensures yes { IfOk result (λ is. is ≡ true → IsAnswerable m.now) }
-    ensures no { IfOk result (λ is. is ≡ false → IsAnswerable m.now → ⊥) }
+// Whether queries are answered over a model: all its tables are stored. What a project loads to is then a resolved model.
+fn is_answerable(m: &Model) -> bool
+    requires { m.now.derived ≡ [] → IsResolved m.now }
+    ensures yes { result ≡ true → IsAnswerable m.now }
+    ensures no { result ≡ false → IsAnswerable m.now → ⊥ }
 {
-    if !m.derived.is_empty() {
-        return Ok(false);
-    }
-    is_resolved(alloc, m)
+    m.derived.is_empty()
 }
 
 // Whether all requests are served over a model: queries are, and it has no datagroups.
-fn is_served(alloc: Global, m: &Model) -> Result<bool, NoMemory>
-    ensures yes { IfOk result (λ is. is ≡ true → IsServed m.now) }
-    ensures no { IfOk result (λ is. is ≡ false → IsServed m.now → ⊥) }
+fn is_served(m: &Model) -> bool
+    requires { m.now.derived ≡ [] → IsResolved m.now }
+    ensures yes { result ≡ true → IsServed m.now }
+    ensures no { result ≡ false → IsServed m.now → ⊥ }
 {
-    if !m.datagroups.is_empty() {
-        return Ok(false);
-    }
-    is_answerable(alloc, m)
+    m.datagroups.is_empty() && is_answerable(m)
 }
 
 // The batches of tables, each with its table's number.

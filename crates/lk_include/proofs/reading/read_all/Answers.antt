@@ -18,6 +18,7 @@ loop-round-preserved g c = record {
       (omega arith) c.loop-round.invariant.steps
       (subst (λ t. IfSome t (λ told. step told (progress_of c.loop-round.reading) ≡ goes_on (progress_of c.read_one.new.reading)))
       c.loop-round.invariant.same c.in-Ok.ensures.step);
+  read = c.in-Ok.ensures.read;
   same = first_of (search rules, grind arith);
   later = first_of (search rules, omega arith);
 }

@@ -12,3 +12,6 @@ returns-in-Ok-clause-tree c =
 pub returns-in-Err-clause-tree : goal.returns-in-Err-clause-tree
 returns-in-Err-clause-tree c =
     refused_as c.args.path.now c.args.body.now c.in-Err.fault c.refusal.result c.in-Err.ensures.outcome c.refusal.ensures.told
+
+pub returns-in-Ok-clause-read : goal.returns-in-Ok-clause-read
+returns-in-Ok-clause-read c = record { text = c.args.body.now; spells = c.in-Ok.ensures.found }

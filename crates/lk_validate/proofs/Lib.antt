@@ -1,9 +1,0 @@
-pub mod FormLaws
-pub mod GroundingLaws
-pub mod GroupLaws
-pub mod KeyLaws
-pub mod KnownLaws
-pub mod NamedLaws
-pub mod SameLaws
-pub mod StoredLaws
-pub mod ValidityLaws
