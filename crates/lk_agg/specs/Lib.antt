@@ -1,6 +1,7 @@
 pub mod Given
 pub mod Tallies
 pub mod NumberPair
+pub mod TextPair
 pub mod Kept
 pub mod Columns
 pub mod Regular

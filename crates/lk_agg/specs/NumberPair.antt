@@ -45,7 +45,7 @@ abbrev pub number_in : Value → Option ℤ
 number_in (Num n) = Some n.0
 number_in v = None
 
-number_back : (n : Option ℤ) → number_in (number_or_null n) ≡ n
+pub number_back : (n : Option ℤ) → number_in (number_or_null n) ≡ n
 number_back None = refl
 number_back (Some n) = refl
 

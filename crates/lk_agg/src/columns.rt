@@ -8,7 +8,7 @@ ghost use Rattle.lk_agg.specs.Given.{given_cells, key_value_of};
 
 use crate::given::{Given, KeyRef, given_at};
 use crate::kept::Kept;
-use crate::sorted::Sorted;
+use crate::sorted::{Growth, Sorted};
 use lk_types::Op;
 use lk_val::{Items, NoMemory, Value, ValueRef};
 use std::alloc::Global;
@@ -154,7 +154,7 @@ fn add_value(alloc: Global, values: &mut Sorted<Value>, value: ValueRef<'_>) -> 
     ensures { OnOk result (values.new ≡ with_value (value_of_ref value.entry) values.old) }
 {
     if !value.is_null() {
-        values.insert(value.to_value(alloc)?)?;
+        values.insert(value.to_value(alloc)?, Growth::Half)?;
     }
     Ok(())
 }

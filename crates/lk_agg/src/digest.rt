@@ -4,9 +4,11 @@ ghost use Rattle.lk_val.specs.Values.{is_same};
 ghost use Rattle.lk_semantics.specs.Measures.{amount, known_count, total};
 ghost use Rattle.lk_types.specs.declared.answer.Pair.{Pair};
 ghost use Rattle.lk_agg.specs.NumberPair.{pair_of_numbers};
+ghost use Rattle.lk_agg.specs.TextPair.{pair_of_text};
 ghost use Rattle.lk_agg.specs.Finishing.{digest_of, twice_after, twice_in};
 
 use crate::number_pair::NumberPair;
+use crate::text_pair::TextPair;
 use lk_types::Pair as WholePair;
 use lk_val::{NoMemory, Value, ValueRef};
 use std::alloc::Global;
@@ -30,6 +32,9 @@ pub(crate) trait Paired {
 
     fn value(&self) -> ValueRef<'_>
         ensures { value_of_ref result ≡ (pair self.now).value };
+
+    fn into_pair(self) -> WholePair
+        ensures { result ≡ pair self };
 }
 
 impl Paired for NumberPair {
@@ -42,6 +47,26 @@ impl Paired for NumberPair {
     fn value(&self) -> ValueRef<'_> {
         self.value_ref()
     }
+
+    fn into_pair(self) -> WholePair {
+        self.to_pair()
+    }
+}
+
+impl Paired for TextPair {
+    ghost pair = { pair_of_text };
+
+    fn key(&self) -> ValueRef<'_> {
+        self.key_ref()
+    }
+
+    fn value(&self) -> ValueRef<'_> {
+        self.value_ref()
+    }
+
+    fn into_pair(self) -> WholePair {
+        TextPair::into_pair(self)
+    }
 }
 
 impl Paired for WholePair {
@@ -53,6 +78,10 @@ impl Paired for WholePair {
 
     fn value(&self) -> ValueRef<'_> {
         self.value.as_ref()
+    }
+
+    fn into_pair(self) -> WholePair {
+        self
     }
 }
 

@@ -1,16 +1,18 @@
-ghost use Rattle.std.specs.Prelude.{◌≡◌, IfOk, OnOk, map};
+ghost use Rattle.std.specs.Prelude.{◌≡◌, [], IfOk, OnOk, map, true};
 ghost use Rattle.lk_val.specs.Sets.{with_item};
 ghost use Rattle.lk_val.specs.ValueRefs.{value_of_ref};
 ghost use Rattle.lk_types.specs.PairOrder.{pair_cmp};
 ghost use Rattle.lk_agg.specs.Finishing.{digest_of};
 ghost use Rattle.lk_agg.specs.Kept.{rows_kept};
 ghost use Rattle.lk_agg.specs.NumberPair.{pair_of_numbers};
-ghost use Rattle.lk_agg.specs.Tallies.{with_amount};
+ghost use Rattle.lk_agg.specs.Tallies.{no_tally, with_amount};
+ghost use Rattle.lk_agg.specs.TextPair.{pair_of_text, text_pair_cmp, text_pair_lent};
 
-use crate::digest::{Digest, digest_of};
+use crate::digest::{Digest, Paired, digest_of};
 use crate::number_pair::{NumberPair, numbers_of};
-use crate::sorted::Sorted;
+use crate::sorted::{Growth, Sorted};
 use crate::tally::Tally;
+use crate::text_pair::{LentTextPair, TextPair, is_found, text_pair_of};
 use lk_types::Pair;
 use lk_val::{Items, NoMemory, ValueRef};
 use std::alloc::Global;
@@ -36,6 +38,8 @@ pub(crate) struct KeptRows {
 pub(crate) enum Form {
     // Pairs as numbers, while all are such. Before any row there is none.
     Numbers(Sorted<NumberPair>),
+    // Pairs of which the keys are texts and the values numbers or null, while all are such.
+    Texts(Sorted<TextPair>),
     Whole(Sorted<Pair>),
     Tally(Tally),
     Mixed(Box<KeptRows>),
@@ -83,13 +87,7 @@ impl Kept {
     {
         match numbers_of(key, value) {
             Some(pair) => insert_numbers(alloc, &mut self.form, pair),
-            None => {
-                let pair = Pair {
-                    key: key.to_value(alloc)?,
-                    value: value.to_value(alloc)?,
-                };
-                insert_whole(alloc, &mut self.form, pair)
-            }
+            None => insert_other(alloc, &mut self.form, key, value),
         }
     }
 
@@ -102,7 +100,7 @@ impl Kept {
     }
 
     // What the pairs come to, and the tally.
-    #[tactic(auto, using(crate::specs::NumberPair::number_pairs_ordered))]
+    #[tactic(auto, using(crate::specs::NumberPair::number_pairs_ordered, crate::specs::TextPair::text_pairs_ordered))]
     pub(crate) fn digest(self, alloc: Global) -> Result<(Digest, Tally), NoMemory>
         ensures { IfOk result (λ digest. digest ≡ (digest_of self.pairs, self.tally)) }
     {
@@ -110,6 +108,10 @@ impl Kept {
         match form {
             Form::Numbers(numbers) => {
                 let digest = digest_of(alloc, numbers.into_ascending().as_slice())?;
+                Ok((digest, Tally::new()))
+            }
+            Form::Texts(texts) => {
+                let digest = digest_of(alloc, texts.into_ascending().as_slice())?;
                 Ok((digest, Tally::new()))
             }
             form => digest_of_rows(alloc, rows_of(alloc, form)?),
@@ -133,8 +135,73 @@ fn insert_numbers(alloc: Global, form: &mut Form, pair: NumberPair) -> Result<()
     }) }
 {
     match form {
-        Form::Numbers(numbers) => numbers.insert(pair),
+        Form::Numbers(numbers) => numbers.insert(pair, Growth::Half),
         _ => insert_whole(alloc, form, pair.to_pair()),
+    }
+}
+
+// Adds a pair that is not one of numbers.
+#[tactic(auto, using(crate::proofs::KeptLaws::text_is))]
+fn insert_other(
+    alloc: Global,
+    form: &mut Form,
+    key: ValueRef<'_>,
+    value: ValueRef<'_>,
+) -> Result<(), NoMemory>
+    ensures { OnOk result (rows_kept form.new ≡ record (rows_kept form.old) {
+      pairs = with_item pair_cmp
+          (record { key = value_of_ref key.entry; value = value_of_ref value.entry }) (rows_kept form.old).pairs;
+    }) }
+{
+    match text_pair_of(key, value) {
+        Some(pair) => insert_text(alloc, form, pair),
+        None => {
+            let pair = Pair {
+                key: key.to_value(alloc)?,
+                value: value.to_value(alloc)?,
+            };
+            insert_whole(alloc, form, pair)
+        }
+    }
+}
+
+#[tactic(auto, using(crate::proofs::KeptLaws::with_text))]
+fn insert_text(alloc: Global, form: &mut Form, pair: LentTextPair<'_>) -> Result<(), NoMemory>
+    ensures { OnOk result (rows_kept form.new ≡ record (rows_kept form.old) {
+      pairs = with_item pair_cmp (pair_of_text (text_pair_lent pair.entry)) (rows_kept form.old).pairs;
+    }) }
+{
+    if is_new(form) {
+        *form = Form::Texts(Sorted::new(alloc));
+    }
+    match form {
+        Form::Texts(texts) => add_text(alloc, texts, pair),
+        _ => insert_whole(alloc, form, pair.to_text_pair(alloc)?.into_pair()),
+    }
+}
+
+// The key is copied only where its pair is not found.
+#[tactic(auto, using(crate::specs::TextPair::text_pairs_ordered))]
+fn add_text(
+    alloc: Global,
+    texts: &mut Sorted<TextPair>,
+    pair: LentTextPair<'_>,
+) -> Result<(), NoMemory>
+    ensures { OnOk result (texts.new ≡ with_item text_pair_cmp (text_pair_lent pair.entry) texts.old) }
+{
+    if is_found(texts.first_items(), pair) {
+        return Ok(());
+    }
+    texts.push(pair.to_text_pair(alloc)?, Growth::Fifth)
+}
+
+// Whether no row was added.
+fn is_new(form: &Form) -> bool
+    ensures { result ≡ true → rows_kept form.now ≡ record { pairs = []; tally = no_tally } }
+{
+    match form {
+        Form::Numbers(numbers) => numbers.is_empty(),
+        _ => false,
     }
 }
 
@@ -145,8 +212,8 @@ fn insert_whole(alloc: Global, form: &mut Form, pair: Pair) -> Result<(), NoMemo
     }) }
 {
     match form {
-        Form::Whole(pairs) => pairs.insert(pair),
-        Form::Mixed(rows) => rows.pairs.insert(pair),
+        Form::Whole(pairs) => pairs.insert(pair, Growth::Fifth),
+        Form::Mixed(rows) => rows.pairs.insert(pair, Growth::Fifth),
         _ => insert_anew(alloc, form, pair),
     }
 }
@@ -160,7 +227,7 @@ fn insert_anew(alloc: Global, form: &mut Form, pair: Pair) -> Result<(), NoMemor
 {
     let taken = mem::replace(form, Form::Numbers(Sorted::new(alloc)));
     let mut rows = rows_of(alloc, taken)?;
-    rows.pairs.insert(pair)?;
+    rows.pairs.insert(pair, Growth::Fifth)?;
     *form = form_of(alloc, rows)?;
     Ok(())
 }
@@ -199,6 +266,10 @@ fn rows_of(alloc: Global, form: Form) -> Result<KeptRows, NoMemory>
             pairs: whole_of(alloc, numbers)?,
             tally: Tally::new(),
         }),
+        Form::Texts(texts) => Ok(KeptRows {
+            pairs: whole_of_texts(alloc, texts)?,
+            tally: Tally::new(),
+        }),
         Form::Whole(pairs) => Ok(KeptRows {
             pairs,
             tally: Tally::new(),
@@ -211,7 +282,7 @@ fn rows_of(alloc: Global, form: Form) -> Result<KeptRows, NoMemory>
     }
 }
 
-// The form of rows that are not all pairs of numbers.
+// The form of rows that are not all pairs of one kind.
 fn form_of(alloc: Global, rows: KeptRows) -> Result<Form, NoMemory>
     ensures { IfOk result (λ form. rows_kept form ≡ rows) }
 {
@@ -230,16 +301,24 @@ fn form_of(alloc: Global, rows: KeptRows) -> Result<Form, NoMemory>
 fn whole_of(alloc: Global, numbers: Sorted<NumberPair>) -> Result<Sorted<Pair>, NoMemory>
     ensures { IfOk result (λ pairs. pairs ≡ map pair_of_numbers numbers) }
 {
-    let pairs = pairs_of(alloc, numbers.into_vec().as_slice())?;
+    let pairs = pairs_of(alloc, numbers.into_vec())?;
     Ok(Sorted::from_vec(pairs.into_vec()))
 }
 
-fn pairs_of(alloc: Global, numbers: &[NumberPair]) -> Result<Items<Pair>, NoMemory>
-    ensures { IfOk result (λ pairs. pairs ≡ map pair_of_numbers numbers.now) }
+#[tactic(auto, using(crate::proofs::KeptLaws::set_of_texts))]
+fn whole_of_texts(alloc: Global, texts: Sorted<TextPair>) -> Result<Sorted<Pair>, NoMemory>
+    ensures { IfOk result (λ pairs. pairs ≡ map pair_of_text texts) }
 {
-    let mut pairs = Items::from_vec(Vec::with_capacity(alloc, numbers.len())?);
-    for pair in numbers {
-        pairs.push(pair.to_pair())?;
+    let pairs = pairs_of(alloc, texts.into_vec())?;
+    Ok(Sorted::from_vec(pairs.into_vec()))
+}
+
+fn pairs_of<T: Paired + Drop>(alloc: Global, items: Vec<T>) -> Result<Items<Pair>, NoMemory>
+    ensures { IfOk result (λ pairs. pairs ≡ map T.pair items.items) }
+{
+    let mut pairs = Items::from_vec(Vec::with_capacity(alloc, items.len())?);
+    for item in items {
+        pairs.push(item.into_pair())?;
     }
     Ok(pairs)
 }

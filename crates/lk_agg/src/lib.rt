@@ -16,6 +16,7 @@ mod number_pair;
 mod parts;
 mod sorted;
 mod tally;
+mod text_pair;
 
 pub use acc::{Acc, AccShape, partials};
 pub use fault::AggFault;

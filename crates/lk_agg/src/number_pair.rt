@@ -41,10 +41,7 @@ impl NumberPair {
     {
         Pair {
             key: Value::Num(Num(self.key)),
-            value: match self.value {
-                Some(value) => Value::Num(Num(value)),
-                None => Value::Null,
-            },
+            value: number_or_null(self.value),
         }
     }
 
@@ -57,10 +54,7 @@ impl NumberPair {
     pub(crate) fn value_ref(self) -> ValueRef<'static>
         ensures { value_of_ref result ≡ (pair_of_numbers self).value }
     {
-        match self.value {
-            Some(value) => ValueRef::Num(Num(value)),
-            None => ValueRef::Null,
-        }
+        lent_number(self.value)
     }
 }
 
@@ -105,8 +99,28 @@ impl Ord for NumberPair {
     }
 }
 
+// A value of its own for a number, and null for none.
+pub(crate) fn number_or_null(number: Option<i64>) -> Value
+    ensures { result ≡ number_or_null number }
+{
+    match number {
+        Some(number) => Value::Num(Num(number)),
+        None => Value::Null,
+    }
+}
+
+// The same, lent.
+pub(crate) fn lent_number(number: Option<i64>) -> ValueRef<'static>
+    ensures { value_of_ref result ≡ number_or_null number }
+{
+    match number {
+        Some(number) => ValueRef::Num(Num(number)),
+        None => ValueRef::Null,
+    }
+}
+
 // The order of two numbers, of which null comes first.
-fn cmp_numbers(a: Option<i64>, b: Option<i64>) -> Ordering
+pub(crate) fn cmp_numbers(a: Option<i64>, b: Option<i64>) -> Ordering
     ensures { result ≡ value_cmp (number_or_null a) (number_or_null b) }
 {
     match (a, b) {

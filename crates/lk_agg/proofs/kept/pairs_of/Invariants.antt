@@ -1,6 +1,10 @@
-use Rattle.std.proofs.Common.{◌≡◌, ◌++◌, drop, map}
-use Rattle.lk_agg.specs.NumberPair.{pair_of_numbers}
+use Rattle.std.proofs.Common.{◌≡◌, ◌++◌, map}
+use Rattle.std.specs.Vec.Iter.{into_iter_items}
 use Rattle.lk_agg.proofs.kept.pairs_of.Given as goal
 
-abbrev pub invariant-loop-pair : goal.invariant-loop-pair
-invariant-loop-pair l = l.pairs ++ map pair_of_numbers (drop l.pair-index l.numbers) ≡ map pair_of_numbers l.numbers
+abbrev pub invariant-loop-item : goal.invariant-loop-item
+invariant-loop-item g l = record {
+  can_go_on : (goal.iterator-loop-item g).can_next l.item-iterator;
+  will_end : (goal.iterator-loop-item g).is_finite l.item-iterator;
+  made : l.pairs ++ map g.T.Paired.pair (into_iter_items l.item-iterator) ≡ map g.T.Paired.pair l.fn.items.items;
+}
