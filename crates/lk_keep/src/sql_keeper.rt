@@ -1,5 +1,5 @@
 ghost use Rattle.std.specs.Prelude.{◌≡◌, None, IfOk};
-ghost use Rattle.lk_ledger.specs.Causes.{HasKeepCause};
+ghost use Rattle.lk_ledger.specs.Causes.{HasKeepCause, count_after};
 ghost use Rattle.lk_ledger.specs.Saved.{IsSaved};
 ghost use Rattle.lk_keep.specs.System.{sql_faults};
 
@@ -94,6 +94,8 @@ impl SqlKeeper {
     // Counts a call's fault.
     fn count<T>(&mut self, answer: Result<T, KeepFault>) -> Result<T, KeepFault>
         ensures same { result ≡ answer }
+        ensures counted { sql_faults self.new ≡ count_after (sql_faults self.old) result }
+
         ensures cause { HasKeepCause (sql_faults self.old) (sql_faults self.new) result }
     {
         self.faults = faults_after(self.faults, &answer);
@@ -112,6 +114,7 @@ impl Keeper for SqlKeeper {
         ensures cause { HasKeepCause (sql_faults self.old) (sql_faults self.new) result }
 
         ensures saved { IfOk result IsSaved }
+        ensures counted { sql_faults self.new ≡ count_after (sql_faults self.old) result }
     {
         let answer = self.read(alloc);
         self.count(answer)
@@ -119,6 +122,8 @@ impl Keeper for SqlKeeper {
 
     fn save_load(&mut self, _: Global, command: &Command) -> Result<(), KeepFault>
         ensures cause { HasKeepCause (sql_faults self.old) (sql_faults self.new) result }
+
+        ensures counted { sql_faults self.new ≡ count_after (sql_faults self.old) result }
     {
         let answer = self.write_load(command);
         self.count(answer)
@@ -126,6 +131,8 @@ impl Keeper for SqlKeeper {
 
     fn save_check(&mut self, _: Global, number: u64) -> Result<(), KeepFault>
         ensures cause { HasKeepCause (sql_faults self.old) (sql_faults self.new) result }
+
+        ensures counted { sql_faults self.new ≡ count_after (sql_faults self.old) result }
     {
         let answer = self.write_check(number);
         self.count(answer)

@@ -1,5 +1,5 @@
 ghost use Rattle.std.specs.Prelude.{◌≡◌};
-ghost use Rattle.lk_ledger.specs.Causes.{HasKeepCause};
+ghost use Rattle.lk_ledger.specs.Causes.{HasKeepCause, count_after};
 
 use lk_val::NoMemory;
 use std::alloc::AllocError;
@@ -36,9 +36,11 @@ impl From<AllocError> for KeepFault {
     }
 }
 
-/// A store's count of faults after a call: one more where the call failed, up to the greatest of 64 bits.
+/// A store's count of faults after a call: one more where the call failed, up to the greatest of 64 bits, and else the same.
 pub fn faults_after<T>(faults: u64, answer: &Result<T, KeepFault>) -> u64
-    ensures { HasKeepCause faults result answer.now }
+    ensures counted { result ≡ count_after faults answer.now }
+
+    ensures cause { HasKeepCause faults result answer.now }
 {
     match answer {
         Err(KeepFault::Failed) => faults.saturating_add(1),
