@@ -86,10 +86,6 @@ trees_spelled (file ∷ trees) h = (file_spelled 32 h.0.text file.1 h.0.spells, 
 pub read_model_resolved : (p : Project) (loaded : Loaded) → AreRead p.trees → IsLoaded p (Ok loaded) → IsResolvedLoad loaded
 read_model_resolved p loaded read h = after_load p (trees_spelled p.trees read) loaded (Ok loaded) h refl
 
--- the same for a caller that asks it of models without derived tables alone
-pub read_resolved : (p : Project) (loaded : Loaded) → AreRead p.trees → IsLoaded p (Ok loaded) → loaded.model.derived ≡ [] → IsResolved loaded.model
-read_resolved p loaded read h stored = read_model_resolved p loaded read h
-
 -- ---- of a folder's files
 
 module _ (files : List File) (loaded : Loaded) where

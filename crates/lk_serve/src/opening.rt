@@ -1,4 +1,4 @@
-ghost use Rattle.std.specs.Prelude.{◌≡◌, ◌<◌, ◌≤◌, [], List, Err, IfErr, IfOk, IfSome, Ok, OnOk, Some, length, true, false};
+ghost use Rattle.std.specs.Prelude.{◌≡◌, ◌<◌, ◌≤◌, List, Err, IfErr, IfOk, IfSome, Ok, OnOk, Some, length, true, false};
 ghost use Rattle.std.specs.List.{All};
 ghost use Rattle.std.specs.Option.{option_map};
 ghost use Rattle.lk_io.specs.Causes.{Rose};
@@ -323,7 +323,7 @@ fn read_batches<F: Files>(
     loaded: Loaded,
     service: Service,
 ) -> Result<Opening, Why>
-    requires { loaded.model.derived ≡ [] → IsResolved loaded.model }
+    requires { IsResolved loaded.model }
     ensures loaded { IfOk result (λ opening. opening.loaded ≡ loaded) }
     ensures batches { IfSome (F.told files.old) (λ told. IfOk result (λ opening. (found : List Seed)
         × (Ok found ≡ seeds_of loaded.model.schema.tables told) × (opening.seeds.items ≡ numbered 0 found))) }
@@ -350,7 +350,7 @@ fn read_batches<F: Files>(
 
 // Whether a model is served so.
 fn is_servable(m: &Model, service: Service) -> bool
-    requires { m.now.derived ≡ [] → IsResolved m.now }
+    requires { IsResolved m.now }
     ensures yes { result ≡ true → IsServable service m.now }
     ensures no { result ≡ false → IsServable service m.now → ⊥ }
 {
@@ -362,7 +362,7 @@ fn is_servable(m: &Model, service: Service) -> bool
 
 // Whether queries are answered over a model: all its tables are stored. What a project loads to is then a resolved model.
 fn is_answerable(m: &Model) -> bool
-    requires { m.now.derived ≡ [] → IsResolved m.now }
+    requires { IsResolved m.now }
     ensures yes { result ≡ true → IsAnswerable m.now }
     ensures no { result ≡ false → IsAnswerable m.now → ⊥ }
 {
@@ -371,7 +371,7 @@ fn is_answerable(m: &Model) -> bool
 
 // Whether all requests are served over a model: queries are, and it has no datagroups.
 fn is_served(m: &Model) -> bool
-    requires { m.now.derived ≡ [] → IsResolved m.now }
+    requires { IsResolved m.now }
     ensures yes { result ≡ true → IsServed m.now }
     ensures no { result ≡ false → IsServed m.now → ⊥ }
 {
