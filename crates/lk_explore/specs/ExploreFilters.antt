@@ -42,12 +42,16 @@ pub record IsAlways (explore : List ℕ) (value : Node) (f : AlwaysFilter) : Typ
 abbrev pub missing_in : List ℕ → List ℕ → List Item → List Finding
 missing_in explore name items = wrong order.Object explore (codes "access_filter") name (is_missing name items)
 
--- another value than a block without a name, or what stands wrong in it, and then what is missing
+-- what stands wrong in its block, and then what is missing
+abbrev pub access_block_findings : List ℕ → List Item → List Finding
+access_block_findings explore items =
+    part_findings owner.AccessFilter explore (codes "access_filter") items
+    ++ missing_in explore (codes "field") items
+    ++ missing_in explore (codes "user_attribute") items
+
+-- another value than a block without a name, or that
 abbrev pub access_findings : List ℕ → Node → List Finding
-access_findings explore (node.Block None inner) =
-    part_findings owner.AccessFilter explore (codes "access_filter") (items_of inner)
-    ++ missing_in explore (codes "field") (items_of inner)
-    ++ missing_in explore (codes "user_attribute") (items_of inner)
+access_findings explore (node.Block None inner) = access_block_findings explore (items_of inner)
 access_findings explore value = wrong_at explore (codes "access_filter") true
 
 abbrev pub access_of : List ℕ → Node → AccessFilter

@@ -107,6 +107,19 @@ fn first_of_explore(
     ensures { IfOk result (λ first. first ≡ soonest (explore_findings explore.now items.now)) }
 {
     let mut findings = Findings::new();
+    find_in_explore(alloc, explore, items, &mut findings)?;
+    Ok(findings.first)
+}
+
+fn find_in_explore(
+    alloc: Global,
+    explore: &str,
+    items: &[Item],
+    findings: &mut Findings,
+) -> Result<(), NoMemory>
+    ensures { IfOk result (λ _. findings.new.first
+        ≡ fold sooner findings.old.first (explore_findings explore.now items.now)) }
+{
     find_unknown(
         alloc,
         Order::Object,
@@ -114,11 +127,10 @@ fn first_of_explore(
         explore,
         None,
         items,
-        &mut findings,
+        findings,
     )?;
-    find_in_values(alloc, explore, items, &mut findings)?;
-    find_many(alloc, items, &mut findings)?;
-    Ok(findings.first)
+    find_in_values(alloc, explore, items, findings)?;
+    find_many(alloc, items, findings)
 }
 
 fn find_in_values(

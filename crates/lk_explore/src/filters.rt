@@ -3,7 +3,7 @@ ghost use Rattle.std.specs.List.{filter, fold};
 ghost use Rattle.lk_params.specs.Findings.{soonest, sooner};
 ghost use Rattle.lk_params.specs.Values as values;
 ghost use Rattle.lk_written.specs.Codes.{IsCode};
-ghost use Rattle.lk_explore.specs.ExploreFilters.{AreExploreFilters, IsAlways, IsExploreFilter, access_findings, access_of, always_findings, is_filter, missing_in, where_findings};
+ghost use Rattle.lk_explore.specs.ExploreFilters.{AreExploreFilters, IsAlways, IsExploreFilter, access_block_findings, access_findings, access_of, always_findings, is_filter, missing_in, where_findings};
 
 use crate::part_findings::find_in_part;
 use crate::values::{add_wrong_at, plain_items};
@@ -102,22 +102,49 @@ fn first_of_access(alloc: Global, explore: &str, value: &Node) -> Result<Option<
     ensures { IfOk result (λ first. first ≡ soonest (access_findings explore.now value.now)) }
 {
     let mut findings = Findings::new();
-    let Node::Block(None, inner) = value else {
-        add_wrong_at(alloc, explore, "access_filter", true, &mut findings)?;
-        return Ok(findings.first);
-    };
-    let items = parameters_of(inner);
+    find_in_access(alloc, explore, value, &mut findings)?;
+    Ok(findings.first)
+}
+
+fn find_in_access(
+    alloc: Global,
+    explore: &str,
+    value: &Node,
+    findings: &mut Findings,
+) -> Result<(), NoMemory>
+    ensures { IfOk result (λ _. findings.new.first
+        ≡ fold sooner findings.old.first (access_findings explore.now value.now)) }
+{
+    match value {
+        Node::Block(None, inner) => find_in_access_block(
+            alloc,
+            explore,
+            parameters_of(inner),
+            findings,
+        ),
+        _ => add_wrong_at(alloc, explore, "access_filter", true, findings),
+    }
+}
+
+fn find_in_access_block(
+    alloc: Global,
+    explore: &str,
+    items: &[Item],
+    findings: &mut Findings,
+) -> Result<(), NoMemory>
+    ensures { IfOk result (λ _. findings.new.first
+        ≡ fold sooner findings.old.first (access_block_findings explore.now items.now)) }
+{
     find_in_part(
         alloc,
         Owner::AccessFilter,
         explore,
         "access_filter",
         items,
-        &mut findings,
+        findings,
     )?;
-    find_missing(alloc, explore, "field", items, &mut findings)?;
-    find_missing(alloc, explore, "user_attribute", items, &mut findings)?;
-    Ok(findings.first)
+    find_missing(alloc, explore, "field", items, findings)?;
+    find_missing(alloc, explore, "user_attribute", items, findings)
 }
 
 fn find_missing(
@@ -159,8 +186,21 @@ fn first_of_where(
     ensures { IfOk result (λ first. first ≡ soonest (where_findings explore.now condition.now)) }
 {
     let mut findings = Findings::new();
+    find_in_where(alloc, explore, condition, &mut findings)?;
+    Ok(findings.first)
+}
+
+fn find_in_where(
+    alloc: Global,
+    explore: &str,
+    condition: &Code,
+    findings: &mut Findings,
+) -> Result<(), NoMemory>
+    ensures { IfOk result (λ _. findings.new.first
+        ≡ fold sooner findings.old.first (where_findings explore.now condition.now)) }
+{
     if let Code::Liquid = condition {
-        add_if(
+        return add_if(
             alloc,
             true,
             Order::Object,
@@ -168,9 +208,8 @@ fn first_of_where(
             "sql_always_where",
             explore,
             "",
-            &mut findings,
-        )?;
-        return Ok(findings.first);
+            findings,
+        );
     }
     find_in_code(
         alloc,
@@ -178,7 +217,6 @@ fn first_of_where(
         explore,
         "sql_always_where",
         condition,
-        &mut findings,
-    )?;
-    Ok(findings.first)
+        findings,
+    )
 }

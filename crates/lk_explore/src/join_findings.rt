@@ -29,6 +29,20 @@ pub(crate) fn first_of_join(
     ensures { IfOk result (λ first. first ≡ soonest (join_findings join.now items.now on.now)) }
 {
     let mut findings = Findings::new();
+    find_in_join(alloc, join, items, on, &mut findings)?;
+    Ok(findings.first)
+}
+
+fn find_in_join(
+    alloc: Global,
+    join: &str,
+    items: &[Item],
+    on: &Code,
+    findings: &mut Findings,
+) -> Result<(), NoMemory>
+    ensures { IfOk result (λ _. findings.new.first
+        ≡ fold sooner findings.old.first (join_findings join.now items.now on.now)) }
+{
     find_unknown(
         alloc,
         Order::Object,
@@ -36,13 +50,12 @@ pub(crate) fn first_of_join(
         join,
         None,
         items,
-        &mut findings,
+        findings,
     )?;
-    find_in_sorts(alloc, join, items, &mut findings)?;
-    find_in_names(alloc, join, items, &mut findings)?;
-    find_in_condition(alloc, join, items, &mut findings)?;
-    find_in_code(alloc, Order::Object, join, "sql_on", on, &mut findings)?;
-    Ok(findings.first)
+    find_in_sorts(alloc, join, items, findings)?;
+    find_in_names(alloc, join, items, findings)?;
+    find_in_condition(alloc, join, items, findings)?;
+    find_in_code(alloc, Order::Object, join, "sql_on", on, findings)
 }
 
 fn find_in_sorts(

@@ -1,7 +1,8 @@
 ghost use Rattle.std.specs.Prelude.{◌≡◌, ◌++◌, IfOk, flat_map};
 ghost use Rattle.lk_resolved.specs.DerivedTables.{column_of, column_with, datagroup_of, derived_over};
 ghost use Rattle.lk_resolved.specs.Explores.{measure_numbers};
-ghost use Rattle.lk_resolved.specs.Filters.{listed};
+ghost use Rattle.lk_resolved.specs.Filters.{filters_named, listed};
+ghost use Rattle.lk_resolved.specs.Names.{dimensions};
 ghost use Rattle.lk_resolved.specs.Numbers.{AreNamed};
 ghost use Rattle.lk_scope.specs.Told.{IsTold};
 
@@ -10,7 +11,7 @@ use crate::filters::{dimension_number, filters_named};
 use crate::names::Named;
 use lk_objects::{DeclaredColumn, DerivedTable};
 use lk_scope::ScopeFields;
-use lk_types::{Derived, Pick};
+use lk_types::{Derived, Filter, Pick};
 use lk_val::{Items, NoMemory, Text};
 use std::alloc::Global;
 
@@ -28,14 +29,40 @@ pub fn resolved_derived(
     requires told { IsTold fields.now }
     ensures { IfOk result (λ derived. derived ≡ derived_over fields.now.views.now fields.now.scope.now datagroups.now name.now table.now explore) }
 {
-    let named = Named::of(alloc, fields)?;
+    let datagroup = datagroup_of(datagroups, &table.datagroup)?;
+    let name = name.copy(alloc)?;
+    let taken = taken_fields(alloc, fields, table)?;
     Ok(Derived {
-        name: name.copy(alloc)?,
+        name,
         explore,
-        columns: columns(alloc, fields, &named, table.columns.as_slice())?,
-        filters: filters_named(alloc, fields, &named, table.filters.as_slice())?,
-        datagroup: datagroup_of(datagroups, &table.datagroup)?,
+        columns: taken.columns,
+        filters: taken.filters,
+        datagroup,
     })
+}
+
+// What a derived table takes from its explore, by the numbers of the fields.
+#[derive(Drop)]
+struct TakenFields {
+    columns: Items<(Text, Pick)>,
+    filters: Items<(u32, Filter)>,
+}
+
+fn taken_fields(
+    alloc: Global,
+    fields: &ScopeFields,
+    table: &DerivedTable,
+) -> Result<TakenFields, NoMemory>
+    requires told { IsTold fields.now }
+    ensures columns { IfOk result (λ taken. taken.columns
+        ≡ flat_map (column_of fields.now.views.now fields.now.scope.now) table.now.columns) }
+    ensures filters { IfOk result (λ taken. taken.filters
+        ≡ filters_named fields.now.views.now fields.now.scope.now (dimensions fields.now.views.now fields.now.scope.now) table.now.filters) }
+{
+    let named = Named::of(alloc, fields)?;
+    let columns = columns(alloc, fields, &named, table.columns.as_slice())?;
+    let filters = filters_named(alloc, fields, &named, table.filters.as_slice())?;
+    Ok(TakenFields { columns, filters })
 }
 
 fn columns(

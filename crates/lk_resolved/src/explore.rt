@@ -2,7 +2,8 @@ ghost use Rattle.std.specs.Prelude.{◌≡◌, ◌++◌, Some, IfOk, flat_map, m
 ghost use Rattle.std.specs.List.{position};
 ghost use Rattle.lk_val.specs.Texts.{is_same_text};
 ghost use Rattle.lk_resolved.specs.Explores.{access_in, access_with, always_in, datagroup_number, explore_of, first_where, joins_from, joins_named, measure_numbers, parts_from, rollup_with, where_with};
-ghost use Rattle.lk_resolved.specs.Fields.{field_with, measure_at};
+ghost use Rattle.lk_resolved.specs.Fields.{all_measures, field_with, fields, measure_at};
+ghost use Rattle.lk_resolved.specs.Filters.{numbers_of_dimensions};
 ghost use Rattle.lk_resolved.specs.Numbers.{AreNamed};
 ghost use Rattle.lk_resolved.specs.Told.{IsModelTold};
 
@@ -34,22 +35,58 @@ pub fn resolved_explore(
     ensures { IfOk result (λ explore. explore
         ≡ explore_of model.now.fields.now.schema.now model.now.fields.now.views.now model.now.fields.now.scope.now model.now.fields.now.columns.now (datagroup_number datagroups.now) x.now) }
 {
-    let named = Named::of(alloc, model.fields)?;
-    let views = resolved_views(alloc, model, x)?;
-    let fields = fields_and_measures(alloc, model, &named)?;
-    let limits = resolved_limits(alloc, model, &named, x.filters.as_slice())?;
-    let rollups = rollups(alloc, model, &named, datagroups, x.rollups.as_slice())?;
     let name = x.name.copy(alloc)?;
+    let views = resolved_views(alloc, model, x)?;
+    let numbered = numbered_parts(alloc, model, datagroups, x)?;
     Ok(Explore {
         name,
         parts: views.parts,
         joins: views.joins,
-        fields: fields.fields,
-        measures: fields.measures,
+        fields: numbered.lists.fields,
+        measures: numbered.lists.measures,
         always_join: views.always_join,
-        always: limits.always,
-        always_where: limits.always_where,
-        access: limits.access,
+        always: numbered.limits.always,
+        always_where: numbered.limits.always_where,
+        access: numbered.limits.access,
+        rollups: numbered.rollups,
+    })
+}
+
+// The fields of an explore, and what names them by their numbers.
+#[derive(Drop)]
+struct NumberedParts {
+    lists: FieldLists,
+    limits: RowLimits,
+    rollups: Items<Rollup>,
+}
+
+fn numbered_parts(
+    alloc: Global,
+    model: &ModelFields,
+    datagroups: &[Text],
+    x: &DeclaredExplore,
+) -> Result<NumberedParts, NoMemory>
+    requires told { IsModelTold model.now }
+    ensures fields { IfOk result (λ made. made.lists.fields
+        ≡ fields model.now.fields.now.schema.now model.now.fields.now.views.now model.now.fields.now.scope.now model.now.fields.now.columns.now) }
+    ensures measures { IfOk result (λ made. made.lists.measures
+        ≡ all_measures model.now.fields.now.schema.now model.now.fields.now.views.now model.now.fields.now.scope.now model.now.fields.now.columns.now) }
+    ensures always { IfOk result (λ made. made.limits.always
+        ≡ flat_map (always_in model.now.fields.now.views.now model.now.fields.now.scope.now) x.now.filters) }
+    ensures condition { IfOk result (λ made. made.limits.always_where
+        ≡ where_with model.now.fields.now.schema.now model.now.fields.now.views.now model.now.fields.now.scope.now model.now.fields.now.columns.now (first_where x.now.filters)) }
+    ensures access { IfOk result (λ made. made.limits.access
+        ≡ flat_map (access_in model.now.fields.now.views.now model.now.fields.now.scope.now) x.now.filters) }
+    ensures rollups { IfOk result (λ made. made.rollups
+        ≡ map (rollup_with model.now.fields.now.views.now model.now.fields.now.scope.now (datagroup_number datagroups.now)) x.now.rollups) }
+{
+    let named = Named::of(alloc, model.fields)?;
+    let rollups = rollups(alloc, model, &named, datagroups, x.rollups.as_slice())?;
+    let limits = resolved_limits(alloc, model, &named, x.filters.as_slice())?;
+    let lists = fields_and_measures(alloc, model, &named)?;
+    Ok(NumberedParts {
+        lists,
+        limits,
         rollups,
     })
 }
@@ -308,13 +345,49 @@ fn rollup_with(
     requires named { AreNamed model.now.fields.now.views.now model.now.fields.now.scope.now named.now }
     ensures { IfOk result (λ made. made ≡ rollup_with model.now.fields.now.views.now model.now.fields.now.scope.now (datagroup_number datagroups.now) rollup.now) }
 {
-    let fields = model.fields;
+    let datagroup = datagroup_number(datagroups, &rollup.datagroup)?;
+    let name = rollup.name.copy(alloc)?;
+    let numbers = numbers_of_fields(alloc, model, named, rollup)?;
+    let filters = filters_named(alloc, model.fields, named, rollup.filters.as_slice())?;
     Ok(Rollup {
-        name: rollup.name.copy(alloc)?,
-        dims: numbers_of_dimensions(alloc, fields, named, rollup.dimensions.as_slice())?,
-        measures: numbers_of_measures(alloc, model, named, rollup.measures.as_slice())?,
-        filters: filters_named(alloc, fields, named, rollup.filters.as_slice())?,
-        datagroup: datagroup_number(datagroups, &rollup.datagroup)?,
+        name,
+        dims: numbers.dimensions,
+        measures: numbers.measures,
+        filters,
+        datagroup,
+    })
+}
+
+// The numbers of the dimensions and of the measures that an aggregate table names.
+#[derive(Drop)]
+struct FieldNumbers {
+    dimensions: Items<u32>,
+    measures: Items<u32>,
+}
+
+fn numbers_of_fields(
+    alloc: Global,
+    model: &ModelFields,
+    named: &Named,
+    rollup: &AggregateTable,
+) -> Result<FieldNumbers, NoMemory>
+    requires told { IsModelTold model.now }
+    requires named { AreNamed model.now.fields.now.views.now model.now.fields.now.scope.now named.now }
+    ensures dimensions { IfOk result (λ numbers. numbers.dimensions
+        ≡ numbers_of_dimensions model.now.fields.now.views.now model.now.fields.now.scope.now named.now.dimensions rollup.now.dimensions) }
+    ensures measures { IfOk result (λ numbers. numbers.measures
+        ≡ flat_map (measure_numbers model.now.fields.now.views.now model.now.fields.now.scope.now) rollup.now.measures) }
+{
+    let dimensions = numbers_of_dimensions(
+        alloc,
+        model.fields,
+        named,
+        rollup.dimensions.as_slice(),
+    )?;
+    let measures = numbers_of_measures(alloc, model, named, rollup.measures.as_slice())?;
+    Ok(FieldNumbers {
+        dimensions,
+        measures,
     })
 }
 

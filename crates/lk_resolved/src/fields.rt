@@ -45,12 +45,15 @@ fn field_with(
     let place = dimension.found.place;
     let group = named.group(place)?;
     let declared = field_at(model.fields.views, model.fields.scope, place);
+    let name = dimension.name.copy(alloc)?;
+    let shape = shape_if(alloc, group, dimension.found.frame, declared)?;
+    let expr = model.field(alloc, place)?;
     Ok(Field {
-        name: dimension.name.copy(alloc)?,
+        name,
         part: place.part,
         kind: kind_of(model, dimension.found),
-        expr: model.field(alloc, place)?,
-        shape: shape_if(alloc, group, dimension.found.frame, declared)?,
+        expr,
+        shape,
     })
 }
 

@@ -2,7 +2,7 @@ ghost use Rattle.std.specs.Prelude.{◌≡◌, ◌++◌, IfOk, flat_map};
 ghost use Rattle.lk_fields.specs.declared.scope.Writer.TheVariants as writer;
 ghost use Rattle.lk_formulas.specs.FieldKinds.{measure_kind};
 ghost use Rattle.lk_formulas.specs.declared.columns.UnknownColumn.TheVariants as unknown_column;
-ghost use Rattle.lk_resolved.specs.Fields.{filters_if, key_if, measure_at, measure_with, op_with, or_number, value_if};
+ghost use Rattle.lk_resolved.specs.Fields.{filters_if, key_if, measure_at, measure_with, number_with, op_with, or_number, value_if};
 ghost use Rattle.lk_resolved.specs.Filters.{filters_of_part};
 ghost use Rattle.lk_resolved.specs.Formulas.{code_formula, field_formula};
 ghost use Rattle.lk_resolved.specs.Numbers.{AreNamed};
@@ -14,7 +14,7 @@ use crate::names::{Named, NamedMeasure};
 use crate::number::number_with;
 use lk_fields::{Place, Writer, field_at};
 use lk_objects::{Code, DeclaredField, FieldSort, FilterText};
-use lk_types::{Expr, Filter, Kind, Measure, Op};
+use lk_types::{Expr, Filter, Kind, Measure, NumExpr, Op};
 use lk_val::{Items, NoMemory};
 use std::alloc::Global;
 
@@ -68,23 +68,57 @@ fn measure_with(
 {
     let place = measure.place;
     let op = op_with(field.sort);
+    let name = measure.name.copy(alloc)?;
+    let filters = filters_if(
+        alloc,
+        model,
+        named,
+        op,
+        place.part,
+        field.filters.as_slice(),
+    )?;
+    let terms = terms_with(alloc, model, named, place, op, field)?;
     Ok(Measure {
-        name: measure.name.copy(alloc)?,
+        name,
         part: place.part,
         op,
         kind: kind_of(model, place),
-        value: value_if(alloc, model, op, place)?,
-        key: key_if(alloc, model, op, place.part, &field.key)?,
-        filters: filters_if(
-            alloc,
-            model,
-            named,
-            op,
-            place.part,
-            field.filters.as_slice(),
-        )?,
-        number: number_with(alloc, model.fields, named, place.part, &field.sql)?,
+        value: terms.value,
+        key: terms.key,
+        filters,
+        number: terms.number,
     })
+}
+
+// The expressions that a measure computes with.
+#[derive(Drop)]
+struct Terms {
+    value: Option<Expr>,
+    key: Option<Expr>,
+    number: Option<NumExpr>,
+}
+
+fn terms_with(
+    alloc: Global,
+    model: &ModelFields,
+    named: &Named,
+    place: Place,
+    op: Op,
+    field: &DeclaredField,
+) -> Result<Terms, NoMemory>
+    requires told { IsModelTold model.now }
+    requires named { AreNamed model.now.fields.now.views.now model.now.fields.now.scope.now named.now }
+    ensures value { IfOk result (λ terms. terms.value
+        ≡ value_if op (field_formula model.now.fields.now.schema.now model.now.fields.now.views.now model.now.fields.now.scope.now model.now.fields.now.columns.now place)) }
+    ensures key { IfOk result (λ terms. terms.key
+        ≡ key_if op (code_formula model.now.fields.now.schema.now model.now.fields.now.views.now model.now.fields.now.scope.now model.now.fields.now.columns.now (writer.Field place.part) field.now.key)) }
+    ensures number { IfOk result (λ terms. terms.number
+        ≡ number_with model.now.fields.now.views.now model.now.fields.now.scope.now place.part field.now.sql) }
+{
+    let number = number_with(alloc, model.fields, named, place.part, &field.sql)?;
+    let value = value_if(alloc, model, op, place)?;
+    let key = key_if(alloc, model, op, place.part, &field.key)?;
+    Ok(Terms { value, key, number })
 }
 
 fn op_with(sort: FieldSort) -> Op
