@@ -14,6 +14,7 @@ use reading::read_store;
 use refusal::Refusal;
 use sqlite::{Connection, File, FileStore};
 use std::alloc::Global;
+use std::mem;
 use std::rt::HostRuntime;
 use writing::{write_check, write_load};
 
@@ -63,32 +64,43 @@ impl SqlKeeper {
         }
     }
 
+    // Keeps the file open behind a call on it that succeeded.
+    fn put_back(&mut self, connection: Connection<FileStore<File>>, is_well: bool)
+        ensures same { sql_faults self.new ≡ sql_faults self.old }
+    {
+        if is_well {
+            drop(mem::replace(&mut self.opened, Some(connection)));
+        } else {
+            drop(connection);
+        }
+    }
+
     fn read(&mut self, alloc: Global) -> Result<Kept, KeepFault>
         ensures saved { IfOk result IsSaved }
         ensures same { sql_faults self.new ≡ sql_faults self.old }
     {
         let mut connection = self.take_opened()?;
-        let kept = read_store(alloc, &mut connection)?;
-        self.opened = Some(connection);
-        Ok(kept)
+        let answer = read_store(alloc, &mut connection);
+        self.put_back(connection, answer.is_ok());
+        Ok(answer?)
     }
 
     fn write_load(&mut self, command: &Command) -> Result<(), KeepFault>
         ensures same { sql_faults self.new ≡ sql_faults self.old }
     {
         let mut connection = self.take_opened()?;
-        write_load(&mut connection, command)?;
-        self.opened = Some(connection);
-        Ok(())
+        let answer = write_load(&mut connection, command);
+        self.put_back(connection, answer.is_ok());
+        Ok(answer?)
     }
 
     fn write_check(&mut self, number: u64) -> Result<(), KeepFault>
         ensures same { sql_faults self.new ≡ sql_faults self.old }
     {
         let mut connection = self.take_opened()?;
-        write_check(&mut connection, number)?;
-        self.opened = Some(connection);
-        Ok(())
+        let answer = write_check(&mut connection, number);
+        self.put_back(connection, answer.is_ok());
+        Ok(answer?)
     }
 
     // Counts a call's fault.

@@ -4,7 +4,7 @@ use lk_ledger::KeepFault;
 use lk_val::NoMemory;
 use sqlite::{Error, ErrorCode};
 
-#[derive(Clone, Copy, Debug, PartialEq, Eq)]
+#[derive(Clone, Copy, PartialEq, Eq)]
 pub(crate) enum Refusal {
     Failed,
     NoMemory,
