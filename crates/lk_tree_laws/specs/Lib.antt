@@ -1,1 +1,2 @@
 pub mod ViewKeys
+pub mod NotResolved

@@ -5,5 +5,5 @@
 mod examples;
 mod laws;
 
-pub use examples::stored_corners_are_defined;
+pub use examples::{stored_corners_are_defined, unresolved_corners_are_defined};
 pub use laws::rows_with_one_key_agree;
