@@ -20,6 +20,12 @@ fn path_of(rt: &HostRuntime, folder: &Text, name: &str) -> Result<Text, Fail> {
     Ok(Text::from_string(format!(in rt.alloc(); "{folder}/{name}")?))
 }
 
+// The files of a folder, as they are read.
+fn files_in(rt: &HostRuntime, folder: &Text) -> Result<FolderFiles<HostRuntime>, Fail> {
+    let folder = folder.copy(rt.alloc()).or(Err("memory"))?;
+    Ok(FolderFiles::at(rt.clone()?, folder))
+}
+
 fn read_text(
     files: &mut FolderFiles<HostRuntime>,
     alloc: Global,
@@ -35,7 +41,7 @@ fn lists_and_reads_the_files_below(rt: HostRuntime) -> Result<(), Fail> {
     for name in ["views/b", "model", "views/a"] {
         fs::write(&rt, path_of(&rt, &folder, name)?.as_str(), name)?;
     }
-    let mut files = FolderFiles::at(rt.clone()?, folder.copy(rt.alloc())?);
+    let mut files = files_in(&rt, &folder)?;
     let paths = files.list(rt.alloc())?;
     let wanted = ["model", "views/a", "views/b"];
     assert_eq!(rt; paths.len(), wanted.len());
@@ -58,7 +64,7 @@ fn follows_no_link_and_reads_nothing_outside(rt: HostRuntime) -> Result<(), Fail
     fs::write(&rt, path_of(&rt, &folder, "views/a")?.as_str(), "1")?;
     rt.symlink("views/a", path_of(&rt, &folder, "linked")?.as_str())?;
     rt.symlink("views", path_of(&rt, &folder, "more")?.as_str())?;
-    let mut files = FolderFiles::at(rt.clone()?, folder.copy(rt.alloc())?);
+    let mut files = files_in(&rt, &folder)?;
     assert_eq!(rt; files.list(rt.alloc())?.len(), 1);
     for name in [
         "missing",
@@ -80,8 +86,8 @@ fn follows_no_link_and_reads_nothing_outside(rt: HostRuntime) -> Result<(), Fail
 #[test]
 fn a_file_over_the_limit_is_too_big(rt: HostRuntime) -> Result<(), Fail> {
     let folder = made_folder(&rt, "sizes")?;
-    let mut files = FolderFiles::at(rt.clone()?, folder.copy(rt.alloc())?);
-    let path = Text::from_str(rt.alloc(), "large")?;
+    let mut files = files_in(&rt, &folder)?;
+    let path = Text::from_str(rt.alloc(), "large").or(Err("memory"))?;
     for (size, length) in [(67_108_864, Some(67_108_864)), (67_108_865, None)] {
         let file = fs::create(&rt, path_of(&rt, &folder, "large")?.as_str())?;
         file.set_len(size)?;
@@ -100,8 +106,8 @@ fn a_file_over_the_limit_is_too_big(rt: HostRuntime) -> Result<(), Fail> {
 
 #[test]
 fn a_missing_folder_is_a_fault(rt: HostRuntime) -> Result<(), Fail> {
-    let folder = Text::from_str(rt.alloc(), "/no/such/folder")?;
-    let mut files = FolderFiles::at(rt.clone()?, folder);
+    let folder = Text::from_str(rt.alloc(), "/no/such/folder").or(Err("memory"))?;
+    let mut files = files_in(&rt, &folder)?;
     assert!(rt; matches!(files.list(rt.alloc()), Err(FileFault::Failed)));
     assert_eq!(rt; files.faults(), 1);
     Ok(())

@@ -1,44 +1,46 @@
 use case_lines::CaseFault;
 use lk_types::{Answer, Shape, print_cell};
-use lk_val::{Bytes, Cell, Items, NoMemory, Text, Value};
+use lk_val::{Cell, Items, NoMemory, Text, Value};
 use std::alloc::Global;
 
 /// The lines of an answer, as `EU 50, US 61/2 (all)`, or `(cut)` where there are more.
-pub fn show_answer(alloc: Global, answer: &Answer) -> Result<Text, CaseFault> {
+pub fn show_answer(alloc: Global, answer: &Answer) -> Result<String, CaseFault> {
     match answer {
         Answer::Table(lines, complete) => show_lines(alloc, lines.as_slice(), *complete),
         _ => Err(CaseFault::NoSuchCase),
     }
 }
 
-fn show_lines(alloc: Global, lines: &[Items<Cell>], complete: bool) -> Result<Text, CaseFault> {
-    let mut shown = Bytes::new(alloc);
-    add_lines(alloc, lines, &mut shown)?;
-    shown.append(if complete { b" (all)" } else { b" (cut)" })?;
-    Text::from_utf8(alloc, shown.as_slice())?.ok_or(CaseFault::NoSuchCase)
+fn show_lines(alloc: Global, lines: &[Items<Cell>], complete: bool) -> Result<String, CaseFault> {
+    let mut shown = String::new(alloc);
+    add_lines(alloc, lines, complete, &mut shown)?;
+    Ok(shown)
 }
 
-fn add_lines(alloc: Global, lines: &[Items<Cell>], shown: &mut Bytes) -> Result<(), CaseFault> {
+fn add_lines(
+    alloc: Global,
+    lines: &[Items<Cell>],
+    complete: bool,
+    shown: &mut String,
+) -> Result<(), CaseFault> {
     for line in lines {
         if !shown.is_empty() {
-            shown.append(b", ")?;
+            shown.push_str(", ")?;
         }
         add_cells(alloc, line.as_slice(), shown)?;
     }
     if shown.is_empty() {
-        shown.append(b"nothing")?;
+        shown.push_str("nothing")?;
     }
-    Ok(())
+    Ok(shown.push_str(if complete { " (all)" } else { " (cut)" })?)
 }
 
-fn add_cells(alloc: Global, cells: &[Cell], shown: &mut Bytes) -> Result<(), CaseFault> {
-    let mut between = false;
+fn add_cells(alloc: Global, cells: &[Cell], shown: &mut String) -> Result<(), CaseFault> {
+    let mut between = "";
     for cell in cells {
-        if between {
-            shown.append(b" ")?;
-        }
-        shown.append(show_cell(alloc, cell)?.as_bytes())?;
-        between = true;
+        shown.push_str(between)?;
+        shown.push_str(show_cell(alloc, cell)?.as_str())?;
+        between = " ";
     }
     Ok(())
 }

@@ -1,59 +1,56 @@
 // The parts of a query as a line writes them, by the names of the shop's fields.
 
-use crate::shop::pick_named;
+use crate::shop::{measure_named, pick_named};
 use case_lines::CaseFault;
 use lk_filter::{FilterKind, read_filter};
-use lk_types::{Explore, Filter, Kind, Pick, Sort};
+use lk_types::{Filter, Kind, Pick, Sort};
 use lk_val::Items;
 use std::alloc::Global;
 
-/// The fields that are picked, as `region, total`.
-pub fn picks_of(alloc: Global, x: &Explore, text: &str) -> Result<Items<Pick>, CaseFault> {
-    let mut picks = Items::new(alloc);
+/// Adds the fields that are picked, as `region, total`.
+pub fn add_picks(text: &str, picks: &mut Items<Pick>) -> Result<(), CaseFault> {
     for name in text.split(", ") {
-        picks.push(pick_named(x, name)?)?;
+        picks.push(pick_named(name)?)?;
     }
-    Ok(picks)
+    Ok(())
 }
 
-/// The filters on measures, as `total >5; count 2 to 3`, or `none`.
-pub fn filters_of(
+/// Adds the filters on measures, as `total >5; count 2 to 3`, or `none`.
+pub fn add_filters(
     alloc: Global,
-    x: &Explore,
     text: &str,
-) -> Result<Items<(u32, Filter)>, CaseFault> {
-    let mut filters = Items::new(alloc);
+    filters: &mut Items<(u32, Filter)>,
+) -> Result<(), CaseFault> {
     if text == "none" {
-        return Ok(filters);
+        return Ok(());
     }
     for filter in text.split("; ") {
-        filters.push(filter_of(alloc, x, filter)?)?;
+        add_filter(alloc, filter, filters)?;
     }
-    Ok(filters)
+    Ok(())
 }
 
-fn filter_of(alloc: Global, x: &Explore, text: &str) -> Result<(u32, Filter), CaseFault> {
+fn add_filter(
+    alloc: Global,
+    text: &str,
+    filters: &mut Items<(u32, Filter)>,
+) -> Result<(), CaseFault> {
     let (name, text) = text.split_once(" ").ok_or(CaseFault::NoSuchCase)?;
-    let Pick::Mea(number) = pick_named(x, name)? else {
-        return Err(CaseFault::NoSuchCase);
-    };
-    let kind = match x.measures.as_slice().get(number as usize) {
-        Some(measure) => measure.kind,
-        None => Kind::Number,
-    };
+    let (number, kind) = measure_named(name)?;
     let kind = match kind {
         Kind::Text => FilterKind::Text,
         _ => FilterKind::Number,
     };
-    let filter = read_filter(alloc, kind, text.as_bytes()).or(Err(CaseFault::NoSuchCase))?;
-    Ok((number, filter))
+    match read_filter(alloc, kind, text.as_bytes()) {
+        Ok(filter) => Ok(filters.push((number, filter))?),
+        Err(_) => Err(CaseFault::NoSuchCase),
+    }
 }
 
-/// The sorts by fields that are picked, as `total desc, region`, or `none`.
-pub fn sorts_of(alloc: Global, fields: &str, text: &str) -> Result<Items<Sort>, CaseFault> {
-    let mut sorts = Items::new(alloc);
+/// Adds the sorts by fields that are picked, as `total desc, region`, or `none`.
+pub fn add_sorts(fields: &str, text: &str, sorts: &mut Items<Sort>) -> Result<(), CaseFault> {
     if text == "none" {
-        return Ok(sorts);
+        return Ok(());
     }
     for sort in text.split(", ") {
         let (name, down) = match sort.strip_suffix(" desc") {
@@ -63,12 +60,17 @@ pub fn sorts_of(alloc: Global, fields: &str, text: &str) -> Result<Items<Sort>, 
         let place = place_of(fields, name)?;
         sorts.push(Sort { place, down })?;
     }
-    Ok(sorts)
+    Ok(())
 }
 
 // The place of a name among those that are picked.
 fn place_of(fields: &str, name: &str) -> Result<u32, CaseFault> {
-    let place = fields.split(", ").position(|field| field == name);
-    let place = place.ok_or(CaseFault::NoSuchCase)?;
-    u32::try_from(place).or(Err(CaseFault::NoSuchCase))
+    let mut place = 0u32;
+    for field in fields.split(", ") {
+        if field == name {
+            return Ok(place);
+        }
+        place = place.saturating_add(1);
+    }
+    Err(CaseFault::NoSuchCase)
 }

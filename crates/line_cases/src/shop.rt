@@ -1,4 +1,5 @@
-// The explore of the cases: three dimensions, measures, and `number`s over them; and one with a chain of `number`s.
+// The explore of the cases: three dimensions, measures, and `number`s over them; and one with a chain of `number`s. Their
+// names are left empty there: no line of an answer has one.
 
 use case_lines::CaseFault;
 use lk_types::{
@@ -7,151 +8,152 @@ use lk_types::{
 use lk_val::{Items, Num, Text};
 use std::alloc::Global;
 
-const FIELDS: [&str; 3] = ["region", "status", "price"];
+const COUNT: NumNode = NumNode::Measure(0);
 
-// Name, type and kind. The numbers of the measures are their places here.
-const MEASURES: [(&str, Op, Kind); 7] = [
-    ("count", Op::Count, Kind::Number),
-    ("total", Op::Sum, Kind::Number),
-    ("average", Op::Average, Kind::Number),
-    ("least", Op::Min, Kind::Number),
-    ("last", Op::Max, Kind::Text),
-    ("users", Op::CountDistinct, Kind::Number),
-    ("tax", Op::SumDistinct, Kind::Number),
+const TOTAL: NumNode = NumNode::Measure(1);
+
+const AVERAGE: NumNode = NumNode::Measure(2);
+
+const MEAN: NumNode = NumNode::Measure(7);
+
+const TWO: NumNode = NumNode::Literal(Num(20_000));
+
+const MINUS: NumNode = NumNode::Number(Arithmetic::Minus);
+
+const OVER: NumNode = NumNode::Number(Arithmetic::Over);
+
+const PLUS: NumNode = NumNode::Number(Arithmetic::Plus);
+
+const TIMES: NumNode = NumNode::Number(Arithmetic::Times);
+
+// Name, number, type and kind of each measure, and the nodes of a `number`, whose operands stand before what is made of
+// them.
+const MEASURES: [(&str, u32, Op, Kind, &[NumNode]); 17] = [
+    ("count", 0, Op::Count, Kind::Number, &[]),
+    ("total", 1, Op::Sum, Kind::Number, &[]),
+    ("average", 2, Op::Average, Kind::Number, &[]),
+    ("least", 3, Op::Min, Kind::Number, &[]),
+    ("last", 4, Op::Max, Kind::Text, &[]),
+    ("users", 5, Op::CountDistinct, Kind::Number, &[]),
+    ("tax", 6, Op::SumDistinct, Kind::Number, &[]),
+    ("mean", 7, Op::Number, Kind::Number, &[TOTAL, COUNT, OVER]),
+    ("twice", 8, Op::Number, Kind::Number, &[MEAN, TWO, TIMES]),
+    ("gap", 9, Op::Number, Kind::Number, &[TOTAL, AVERAGE, MINUS]),
+    ("both", 10, Op::Number, Kind::Number, &[MEAN, AVERAGE, PLUS]),
+    (
+        "debt",
+        11,
+        Op::Number,
+        Kind::Number,
+        &[TOTAL, NumNode::Negate],
+    ),
+    (
+        "known",
+        12,
+        Op::Number,
+        Kind::Number,
+        &[AVERAGE, TOTAL, NumNode::Coalesce(2)],
+    ),
+    (
+        "unless_two",
+        13,
+        Op::Number,
+        Kind::Number,
+        &[COUNT, TWO, NumNode::NullIf],
+    ),
+    (
+        "share",
+        14,
+        Op::Number,
+        Kind::Number,
+        &[COUNT, TOTAL, NumNode::Negate, OVER],
+    ),
+    (
+        "square",
+        15,
+        Op::Number,
+        Kind::Number,
+        &[TOTAL, TOTAL, TIMES],
+    ),
+    (
+        "cube",
+        16,
+        Op::Number,
+        Kind::Number,
+        &[TOTAL, TOTAL, TIMES, TOTAL, TIMES],
+    ),
 ];
 
-// Name and calculation of each `number`, whose operands stand before what is made of them. They come behind the
-// measures.
-const NUMBERS: [(&str, &str); 10] = [
-    ("mean", "total count over"),
-    ("twice", "mean two times"),
-    ("gap", "total average minus"),
-    ("both", "mean average plus"),
-    ("debt", "total negate"),
-    ("known", "average total coalesce"),
-    ("unless_two", "count two nullif"),
-    ("share", "count total negate over"),
-    ("square", "total total times"),
-    ("cube", "total total times total times"),
-];
-
-/// The explore. Of its views, joins and expressions nothing is asked here.
-pub fn shop(alloc: Global) -> Result<Explore, CaseFault> {
-    let measures = measures(alloc)?;
-    explore_of(alloc, measures)
-}
-
-/// An explore whose first measure counts, and whose others are so many `number`s, each over the measure before it.
-pub fn chain(alloc: Global, length: u32) -> Result<Explore, CaseFault> {
-    let mut measures = Items::new(alloc);
-    measures.push(measure(alloc, "count", Op::Count, Kind::Number, None)?)?;
-    for before in 0..length {
-        measures.push(next_measure(alloc, before)?)?;
+/// The explore, or one of a chain of so many `number`s. Of its views, joins and expressions nothing is asked here.
+pub fn explore(alloc: Global, chain: Option<u32>) -> Result<Explore, CaseFault> {
+    let mut x = empty_explore(alloc);
+    match fill(alloc, chain, &mut x) {
+        Ok(()) => Ok(x),
+        Err(fault) => {
+            drop(x);
+            Err(fault)
+        }
     }
-    explore_of(alloc, measures)
 }
 
-fn next_measure(alloc: Global, before: u32) -> Result<Measure, CaseFault> {
-    let mut nodes = Items::new(alloc);
-    nodes.push(NumNode::Measure(before))?;
-    let number = NumExpr::from_nodes(nodes).ok_or(CaseFault::NoSuchCase)?;
-    measure(alloc, "next", Op::Number, Kind::Number, Some(number))
+fn fill(alloc: Global, chain: Option<u32>, x: &mut Explore) -> Result<(), CaseFault> {
+    add_fields(alloc, &mut x.fields)?;
+    match chain {
+        Some(length) => add_chain(alloc, length, &mut x.measures),
+        None => add_measures(alloc, &mut x.measures),
+    }
 }
 
-fn explore_of(alloc: Global, measures: Items<Measure>) -> Result<Explore, CaseFault> {
-    let name = Text::from_str(alloc, "shop")?;
-    let fields = fields(alloc)?;
-    Ok(Explore {
-        name,
+fn empty_explore(alloc: Global) -> Explore {
+    Explore {
+        name: Text::new(alloc),
         parts: Items::new(alloc),
         joins: Items::new(alloc),
-        fields,
-        measures,
+        fields: Items::new(alloc),
+        measures: Items::new(alloc),
         always_join: Items::new(alloc),
         always: Items::new(alloc),
         always_where: None,
         access: Items::new(alloc),
         rollups: Items::new(alloc),
-    })
-}
-
-fn fields(alloc: Global) -> Result<Items<Field>, CaseFault> {
-    let mut fields = Items::new(alloc);
-    for name in FIELDS {
-        fields.push(field(alloc, name)?)?;
     }
-    Ok(fields)
 }
 
-fn field(alloc: Global, name: &str) -> Result<Field, CaseFault> {
-    let name = Text::from_str(alloc, name)?;
-    let expr = first_column(alloc)?;
-    Ok(Field {
-        name,
+// Three dimensions.
+fn add_fields(alloc: Global, fields: &mut Items<Field>) -> Result<(), CaseFault> {
+    for _ in 0..3 {
+        let expr = Expr::leaf(alloc, Node::Column(0, 0))?;
+        fields.push(field(alloc, expr))?;
+    }
+    Ok(())
+}
+
+fn field(alloc: Global, expr: Expr) -> Field {
+    Field {
+        name: Text::new(alloc),
         part: 0,
         kind: Kind::Text,
         expr,
         shape: Shape::Plain,
-    })
-}
-
-fn first_column(alloc: Global) -> Result<Expr, CaseFault> {
-    let mut nodes = Items::new(alloc);
-    nodes.push(Node::Column(0, 0))?;
-    Expr::from_nodes(nodes).ok_or(CaseFault::NoSuchCase)
-}
-
-fn measures(alloc: Global) -> Result<Items<Measure>, CaseFault> {
-    let mut measures = Items::new(alloc);
-    for (name, op, kind) in MEASURES {
-        measures.push(measure(alloc, name, op, kind, None)?)?;
-    }
-    for (name, words) in NUMBERS {
-        measures.push(calculated(alloc, name, words)?)?;
-    }
-    Ok(measures)
-}
-
-fn calculated(alloc: Global, name: &str, words: &str) -> Result<Measure, CaseFault> {
-    let number = calculation(alloc, words)?;
-    measure(alloc, name, Op::Number, Kind::Number, Some(number))
-}
-
-fn calculation(alloc: Global, words: &str) -> Result<NumExpr, CaseFault> {
-    let mut nodes = Items::new(alloc);
-    for word in words.split(" ") {
-        nodes.push(node_of(word)?)?;
-    }
-    NumExpr::from_nodes(nodes).ok_or(CaseFault::NoSuchCase)
-}
-
-fn node_of(word: &str) -> Result<NumNode, CaseFault> {
-    match word {
-        "count" => Ok(NumNode::Measure(0)),
-        "total" => Ok(NumNode::Measure(1)),
-        "average" => Ok(NumNode::Measure(2)),
-        "mean" => Ok(NumNode::Measure(7)),
-        "two" => Ok(NumNode::Literal(Num(20_000))),
-        "negate" => Ok(NumNode::Negate),
-        "coalesce" => Ok(NumNode::Coalesce(2)),
-        "nullif" => Ok(NumNode::NullIf),
-        "plus" => Ok(NumNode::Number(Arithmetic::Plus)),
-        "minus" => Ok(NumNode::Number(Arithmetic::Minus)),
-        "times" => Ok(NumNode::Number(Arithmetic::Times)),
-        "over" => Ok(NumNode::Number(Arithmetic::Over)),
-        _ => Err(CaseFault::NoSuchCase),
     }
 }
 
-fn measure(
-    alloc: Global,
-    name: &str,
-    op: Op,
-    kind: Kind,
-    number: Option<NumExpr>,
-) -> Result<Measure, CaseFault> {
-    Ok(Measure {
-        name: Text::from_str(alloc, name)?,
+fn add_measures(alloc: Global, measures: &mut Items<Measure>) -> Result<(), CaseFault> {
+    for (_, _, op, kind, nodes) in MEASURES {
+        measures.push(measure(alloc, op, kind, number_of(alloc, nodes)?))?;
+    }
+    Ok(())
+}
+
+// The expression of nodes; none of no nodes.
+fn number_of(alloc: Global, nodes: &[NumNode]) -> Result<Option<NumExpr>, CaseFault> {
+    let nodes = Vec::from_slice(alloc, nodes)?;
+    Ok(NumExpr::from_nodes(Items::from_vec(nodes)))
+}
+
+fn measure(alloc: Global, op: Op, kind: Kind, number: Option<NumExpr>) -> Measure {
+    Measure {
+        name: Text::new(alloc),
         part: 0,
         op,
         kind,
@@ -159,21 +161,46 @@ fn measure(
         key: None,
         filters: Items::new(alloc),
         number,
-    })
+    }
+}
+
+// A measure that counts, and so many `number`s, each over the measure before it.
+fn add_chain(alloc: Global, length: u32, measures: &mut Items<Measure>) -> Result<(), CaseFault> {
+    measures.push(measure(alloc, Op::Count, Kind::Number, None))?;
+    for before in 0..length {
+        let number = number_of(alloc, &[NumNode::Measure(before)])?;
+        measures.push(measure(alloc, Op::Number, Kind::Number, number))?;
+    }
+    Ok(())
 }
 
 /// What a name picks: a dimension or a measure.
-pub fn pick_named(x: &Explore, name: &str) -> Result<Pick, CaseFault> {
-    if let Some(place) = FIELDS.iter().position(|field| *field == name) {
-        let number = u32::try_from(place).or(Err(CaseFault::NoSuchCase))?;
-        return Ok(Pick::Dim(number));
+pub fn pick_named(name: &str) -> Result<Pick, CaseFault> {
+    match name {
+        "region" => Ok(Pick::Dim(0)),
+        "status" => Ok(Pick::Dim(1)),
+        "price" => Ok(Pick::Dim(2)),
+        _ => {
+            let (number, _) = measure_named(name)?;
+            Ok(Pick::Mea(number))
+        }
     }
-    let place = x
-        .measures
-        .as_slice()
-        .iter()
-        .position(|measure| measure.name.as_str() == name);
-    let place = place.ok_or(CaseFault::NoSuchCase)?;
-    let number = u32::try_from(place).or(Err(CaseFault::NoSuchCase))?;
-    Ok(Pick::Mea(number))
+}
+
+/// The number and the kind of the measure of a name.
+pub fn measure_named(name: &str) -> Result<(u32, Kind), CaseFault> {
+    for (other, number, _, kind, _) in MEASURES {
+        if other == name {
+            return Ok((number, kind));
+        }
+    }
+    Err(CaseFault::NoSuchCase)
+}
+
+/// The type of the measure of a number.
+pub fn type_of(number: u32) -> Result<Op, CaseFault> {
+    match MEASURES.get(number as usize) {
+        Some((_, _, op, _, _)) => Ok(*op),
+        None => Err(CaseFault::NoSuchCase),
+    }
 }

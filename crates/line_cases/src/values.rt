@@ -1,110 +1,114 @@
 // Groups with their cells as a line writes them.
 
+use crate::shop::type_of;
 use case_lines::CaseFault;
-use lk_types::{Explore, GroupRow, Op};
+use lk_types::{GroupRow, Op};
 use lk_val::{Cell, Frac, Items, NoMemory, Num, Text, Value};
 use std::alloc::Global;
 
-/// The groups with the cells of components, as `EU complete: 100 2, US open: 30.5 1`: before the colon the values of the
-/// dimensions, and behind it a cell for each component; or `no groups`.
-pub fn groups_of(
+/// Adds the groups with the cells of components, as `EU complete: 100 2, US open: 30.5 1`: before the colon the values of
+/// the dimensions, and behind it a cell for each component; or `no groups`.
+pub fn add_groups(
     alloc: Global,
-    x: &Explore,
     components: &[u32],
     text: &str,
-) -> Result<Items<GroupRow>, CaseFault> {
-    let mut groups = Items::new(alloc);
+    groups: &mut Items<GroupRow>,
+) -> Result<(), CaseFault> {
     if text == "no groups" {
-        return Ok(groups);
+        return Ok(());
     }
     for group in text.split(", ") {
-        groups.push(group_of(alloc, x, components, group)?)?;
+        groups.push(group_of(alloc, components, group)?)?;
     }
-    Ok(groups)
+    Ok(())
 }
 
-fn group_of(
+fn group_of(alloc: Global, components: &[u32], text: &str) -> Result<GroupRow, CaseFault> {
+    let mut row = GroupRow {
+        group: Items::new(alloc),
+        cells: Items::new(alloc),
+    };
+    read_group(alloc, components, text, &mut row)?;
+    Ok(row)
+}
+
+fn read_group(
     alloc: Global,
-    x: &Explore,
     components: &[u32],
     text: &str,
-) -> Result<GroupRow, CaseFault> {
-    match text.split_once(": ") {
-        Some((values, cells)) => {
-            let group = values_of(alloc, values)?;
-            let cells = cells_of(alloc, x, components, cells)?;
-            Ok(GroupRow { group, cells })
-        }
-        None => {
-            let cells = cells_of(alloc, x, components, text)?;
-            Ok(GroupRow {
-                group: Items::new(alloc),
-                cells,
-            })
-        }
+    row: &mut GroupRow,
+) -> Result<(), CaseFault> {
+    let Some((values, cells)) = text.split_once(": ") else {
+        return add_cells(alloc, components, text, &mut row.cells);
+    };
+    for word in values.split(" ") {
+        row.group.push(value_of(alloc, word)?)?;
     }
+    add_cells(alloc, components, cells, &mut row.cells)
 }
 
-fn values_of(alloc: Global, text: &str) -> Result<Items<Value>, CaseFault> {
-    let mut values = Items::new(alloc);
-    for word in text.split(" ") {
-        values.push(value_of(alloc, word)?)?;
-    }
-    Ok(values)
-}
-
-fn cells_of(
+fn add_cells(
     alloc: Global,
-    x: &Explore,
     components: &[u32],
     text: &str,
-) -> Result<Items<Cell>, CaseFault> {
-    let mut cells = Items::new(alloc);
-    for (component, word) in components.iter().zip(text.split(" ")) {
-        let op = match x.measures.as_slice().get(*component as usize) {
-            Some(measure) => measure.op,
-            None => return Err(CaseFault::NoSuchCase),
+    cells: &mut Items<Cell>,
+) -> Result<(), CaseFault> {
+    let mut words = text.split(" ");
+    for component in components {
+        let Some(word) = words.next() else {
+            return Ok(());
         };
-        cells.push(cell_of(alloc, op, word)?)?;
+        cells.push(cell_of(alloc, type_of(*component)?, word)?)?;
     }
-    Ok(cells)
+    Ok(())
 }
 
 // The cell of a measure of a type.
 fn cell_of(alloc: Global, op: Op, word: &str) -> Result<Cell, CaseFault> {
     match op {
-        Op::Count | Op::CountDistinct => {
-            let count = word.parse::<u64>().or(Err(CaseFault::NoSuchCase))?;
-            Ok(Cell::Count(count))
-        }
-        Op::Sum | Op::SumDistinct => {
-            let sum = Num::read(word.as_bytes()).or(Err(CaseFault::NoSuchCase))?;
-            Ok(Cell::Sum(i128::from(sum.0)))
-        }
-        Op::Average | Op::AverageDistinct if word != "null" => Ok(Cell::Frac(fraction_of(word)?)),
+        Op::Count | Op::CountDistinct => count_of(word),
+        Op::Sum | Op::SumDistinct => sum_of(word),
+        Op::Average | Op::AverageDistinct if word != "null" => fraction_of(word),
         _ => Ok(Cell::Value(value_of(alloc, word)?)),
     }
 }
 
+fn count_of(word: &str) -> Result<Cell, CaseFault> {
+    match word.parse::<u64>() {
+        Ok(count) => Ok(Cell::Count(count)),
+        Err(_) => Err(CaseFault::NoSuchCase),
+    }
+}
+
+fn sum_of(word: &str) -> Result<Cell, CaseFault> {
+    match Num::read(word.as_bytes()) {
+        Ok(sum) => Ok(Cell::Sum(i128::from(sum.0))),
+        Err(_) => Err(CaseFault::NoSuchCase),
+    }
+}
+
 // A fraction, as `361/6` or `50`.
-fn fraction_of(word: &str) -> Result<Frac, CaseFault> {
+fn fraction_of(word: &str) -> Result<Cell, CaseFault> {
     let (above, below) = word.split_once("/").unwrap_or((word, "1"));
     let above = above.parse::<i64>().or(Err(CaseFault::NoSuchCase))?;
     let below = below.parse::<u32>().or(Err(CaseFault::NoSuchCase))?;
     if below == 0 {
         return Err(CaseFault::NoSuchCase);
     }
-    Ok(Frac::new(i128::from(above), i128::from(below)))
+    Ok(Cell::Frac(Frac::new(i128::from(above), i128::from(below))))
 }
 
 // The value that a word writes: `null`, `yes`, `no`, a number, and else a text.
 fn value_of(alloc: Global, word: &str) -> Result<Value, NoMemory> {
     match word {
-        "null" => return Ok(Value::Null),
-        "yes" => return Ok(Value::Truth(true)),
-        "no" => return Ok(Value::Truth(false)),
-        _ => {}
+        "null" => Ok(Value::Null),
+        "yes" => Ok(Value::Truth(true)),
+        "no" => Ok(Value::Truth(false)),
+        _ => number_or_text(alloc, word),
     }
+}
+
+fn number_or_text(alloc: Global, word: &str) -> Result<Value, NoMemory> {
     match Num::read(word.as_bytes()) {
         Ok(number) => Ok(Value::Num(number)),
         Err(_) => Ok(Value::Text(Text::from_str(alloc, word)?)),

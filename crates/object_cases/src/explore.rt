@@ -1,48 +1,53 @@
-use crate::parts::{
-    add_code, add_entry, add_filters, add_number, add_optional, add_texts, finished,
-};
+use crate::parts::{add_all, add_code, add_filters, add_names, add_number, add_texts, or_none};
 use case_lines::CaseFault;
 use lk_objects::{AggregateTable, DeclaredDatagroup, DeclaredExplore, DeclaredJoin, ExploreFilter};
 use lk_types::{JoinKind, Relation, Trigger};
-use lk_val::{Bytes, Text};
 use std::alloc::Global;
 
 /// What an explore says: its base view, the joins that always enter, its joins, filters and aggregate tables.
-pub fn answer_explore(alloc: Global, explore: &DeclaredExplore) -> Result<Text, CaseFault> {
-    let mut line = Bytes::new(alloc);
-    line.append(b"from ")?;
-    add_optional(&explore.base, &mut line)?;
-    add_texts(explore.always_join.as_slice(), &mut line)?;
-    for join in explore.joins.as_slice() {
-        line.append(b"; ")?;
-        add_join(join, &mut line)?;
-    }
-    for filter in explore.filters.as_slice() {
-        line.append(b"; ")?;
-        add_filter(filter, &mut line)?;
-    }
-    for table in explore.rollups.as_slice() {
-        line.append(b"; ")?;
-        add_rollup(alloc, table, &mut line)?;
-    }
-    finished(alloc, &line)
+pub fn answer_explore(alloc: Global, explore: &DeclaredExplore) -> Result<String, CaseFault> {
+    let mut line = String::new(alloc);
+    add_explore(explore, &mut line)?;
+    Ok(line)
 }
 
-fn add_join(join: &DeclaredJoin, line: &mut Bytes) -> Result<(), CaseFault> {
-    line.append(b"join ")?;
-    line.append(join.name.as_bytes())?;
-    line.append(b" ")?;
-    add_optional(&join.view, line)?;
-    line.append(b" ")?;
-    line.append(kind_name(join.kind).as_bytes())?;
-    line.append(b" ")?;
-    line.append(relation_name(join.relation).as_bytes())?;
+fn add_explore(explore: &DeclaredExplore, line: &mut String) -> Result<(), CaseFault> {
+    line.push_str("from ")?;
+    add_texts(or_none(&explore.base), explore.always_join.as_slice(), line)?;
+    for join in explore.joins.as_slice() {
+        add_join(join, line)?;
+    }
+    add_rules(explore.filters.as_slice(), explore.rollups.as_slice(), line)
+}
+
+fn add_rules(
+    filters: &[ExploreFilter],
+    tables: &[AggregateTable],
+    line: &mut String,
+) -> Result<(), CaseFault> {
+    for filter in filters {
+        add_filter(filter, line)?;
+    }
+    for table in tables {
+        add_rollup(table, line)?;
+    }
+    Ok(())
+}
+
+fn add_join(join: &DeclaredJoin, line: &mut String) -> Result<(), CaseFault> {
+    add_all(
+        &["; join ", join.name.as_str(), " ", or_none(&join.view)],
+        line,
+    )?;
+    add_all(
+        &[" ", kind_name(join.kind), " ", relation_name(join.relation)],
+        line,
+    )?;
     add_code(&join.on, line)?;
     if let Some(key) = &join.foreign_key {
-        line.append(b" by ")?;
-        line.append(key.as_bytes())?;
+        add_all(&[" by ", key.as_str()], line)?;
     }
-    add_texts(join.required.as_slice(), line)
+    add_texts("", join.required.as_slice(), line)
 }
 
 fn kind_name(kind: JoinKind) -> &'static str {
@@ -63,64 +68,53 @@ fn relation_name(relation: Relation) -> &'static str {
     }
 }
 
-fn add_filter(filter: &ExploreFilter, line: &mut Bytes) -> Result<(), CaseFault> {
+fn add_filter(filter: &ExploreFilter, line: &mut String) -> Result<(), CaseFault> {
     match filter {
         ExploreFilter::Always(always) => {
-            line.append(b"always")?;
-            add_filters(always.filters.as_slice(), line)
+            add_filters("; always", always.filters.as_slice(), line)
         }
         ExploreFilter::Access(access) => {
-            line.append(b"access ")?;
-            add_optional(&access.field, line)?;
-            line.append(b" by ")?;
-            add_optional(&access.attribute, line)
+            let (field, attribute) = (or_none(&access.field), or_none(&access.attribute));
+            add_all(&["; access ", field, " by ", attribute], line)
         }
         ExploreFilter::Where(condition, _) => {
-            line.append(b"where")?;
+            line.push_str("; where")?;
             add_code(condition, line)
         }
     }
 }
 
-fn add_rollup(alloc: Global, table: &AggregateTable, line: &mut Bytes) -> Result<(), CaseFault> {
-    line.append(b"table ")?;
-    line.append(table.name.as_bytes())?;
-    line.append(b" dimensions")?;
-    add_texts(table.dimensions.as_slice(), line)?;
-    line.append(b" measures")?;
-    add_texts(table.measures.as_slice(), line)?;
-    line.append(b" filters")?;
-    add_filters(table.filters.as_slice(), line)?;
-    line.append(b" by ")?;
-    add_optional(&table.datagroup, line)?;
-    line.append(b" names")?;
-    for entry in table.entries.as_slice() {
-        line.append(b" ")?;
-        add_entry(alloc, entry, line)?;
-    }
-    Ok(())
+fn add_rollup(table: &AggregateTable, line: &mut String) -> Result<(), CaseFault> {
+    add_all(&["; table ", table.name.as_str()], line)?;
+    add_texts(" dimensions", table.dimensions.as_slice(), line)?;
+    add_texts(" measures", table.measures.as_slice(), line)?;
+    add_filters(" filters", table.filters.as_slice(), line)?;
+    add_names(&table.datagroup, table.entries.as_slice(), line)
 }
 
 /// What a datagroup says: what it watches, by numbers, and its interval in seconds.
-pub fn answer_datagroup(alloc: Global, group: &DeclaredDatagroup) -> Result<Text, CaseFault> {
-    let mut line = Bytes::new(alloc);
-    match &group.trigger {
-        None => line.append(b"no trigger")?,
-        Some(Trigger::Today) => line.append(b"the day")?,
-        Some(Trigger::Count(table)) => {
-            line.append(b"rows of ")?;
-            add_number(alloc, i64::from(*table), &mut line)?;
-        }
+pub fn answer_datagroup(alloc: Global, group: &DeclaredDatagroup) -> Result<String, CaseFault> {
+    let mut line = String::new(alloc);
+    add_datagroup(group, &mut line)?;
+    Ok(line)
+}
+
+fn add_datagroup(group: &DeclaredDatagroup, line: &mut String) -> Result<(), CaseFault> {
+    add_trigger(&group.trigger, line)?;
+    match group.interval {
+        Some(seconds) => add_number(" every ", seconds, line),
+        None => Ok(()),
+    }
+}
+
+fn add_trigger(trigger: &Option<Trigger>, line: &mut String) -> Result<(), CaseFault> {
+    match trigger {
+        None => Ok(line.push_str("no trigger")?),
+        Some(Trigger::Today) => Ok(line.push_str("the day")?),
+        Some(Trigger::Count(table)) => add_number("rows of ", i64::from(*table), line),
         Some(Trigger::Max(table, column)) => {
-            line.append(b"greatest of ")?;
-            add_number(alloc, i64::from(*table), &mut line)?;
-            line.append(b".")?;
-            add_number(alloc, i64::from(*column), &mut line)?;
+            add_number("greatest of ", i64::from(*table), line)?;
+            add_number(".", i64::from(*column), line)
         }
     }
-    if let Some(seconds) = group.interval {
-        line.append(b" every ")?;
-        add_number(alloc, seconds, &mut line)?;
-    }
-    finished(alloc, &line)
 }

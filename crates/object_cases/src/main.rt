@@ -14,13 +14,17 @@ use std::io;
 fn main(rt: HostRuntime) -> io::Result<()> {
     for line in rt.lines(rt.alloc()) {
         let line = line?;
-        match answer_line(rt.alloc(), line.as_str()) {
-            Ok(answer) => {
-                let answer = answer.as_str();
-                println!(rt; "{answer}")?;
-            }
-            Err(fault) => println!(rt; "{fault}")?,
-        }
+        print_answer(&rt, line.as_str())?;
     }
     Ok(())
+}
+
+fn print_answer(rt: &HostRuntime, line: &str) -> io::Result<()> {
+    match answer_line(rt.alloc(), line) {
+        Ok(answer) => {
+            let answer = answer.as_str();
+            println!(rt; "{answer}")
+        }
+        Err(fault) => println!(rt; "{fault}"),
+    }
 }

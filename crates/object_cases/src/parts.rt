@@ -1,93 +1,106 @@
 use case_lines::CaseFault;
 use lk_objects::{Code, Entry, FilterText, Reference};
-use lk_val::{Bytes, FaultLine, Items, Text};
+use lk_val::{FaultLine, Text};
 use std::alloc::Global;
 
 /// A fault's line, without its line feed.
-pub fn answer_fault(alloc: Global, fault: &FaultLine) -> Result<Text, CaseFault> {
+pub fn answer_fault(alloc: Global, fault: &FaultLine) -> Result<String, CaseFault> {
     let line = fault.print(alloc)?;
-    Ok(Text::from_str(alloc, line.as_str().trim_end())?)
+    Ok(String::from_str(alloc, line.as_str().trim_end())?)
 }
 
-/// A number in decimal digits.
-pub fn add_number(alloc: Global, number: i64, line: &mut Bytes) -> Result<(), CaseFault> {
-    let text = format!(in alloc; "{number}")?;
-    Ok(line.append(text.as_bytes())?)
+/// Texts, one behind the other.
+pub fn add_all(texts: &[&str], line: &mut String) -> Result<(), CaseFault> {
+    for text in texts {
+        line.push_str(text)?;
+    }
+    Ok(())
 }
 
-/// A text, or `none`.
-pub fn add_optional(text: &Option<Text>, line: &mut Bytes) -> Result<(), CaseFault> {
+/// A number in decimal digits behind a text.
+pub fn add_number(title: &str, number: i64, line: &mut String) -> Result<(), CaseFault> {
+    Ok(write!(line, "{title}{number}")?)
+}
+
+/// The text, or `none`.
+pub fn or_none(text: &Option<Text>) -> &str {
     match text {
-        None => Ok(line.append(b"none")?),
-        Some(text) => Ok(line.append(text.as_bytes())?),
+        Some(text) => text.as_str(),
+        None => "none",
     }
 }
 
-/// What a stored query names: a field, or the number of a filter.
-pub fn add_entry(alloc: Global, entry: &Entry, line: &mut Bytes) -> Result<(), CaseFault> {
+/// The datagroup that renews a stored query, and what the query names, each behind a space.
+pub fn add_names(
+    datagroup: &Option<Text>,
+    entries: &[Entry],
+    line: &mut String,
+) -> Result<(), CaseFault> {
+    add_all(&[" by ", or_none(datagroup), " names"], line)?;
+    for entry in entries {
+        add_entry(entry, line)?;
+    }
+    Ok(())
+}
+
+// A field, or the number of a filter.
+fn add_entry(entry: &Entry, line: &mut String) -> Result<(), CaseFault> {
     match entry {
         Entry::Dimension(name) | Entry::Measure(name) | Entry::Column(name) => {
-            Ok(line.append(name.as_bytes())?)
+            add_all(&[" ", name.as_str()], line)
         }
-        Entry::Filter(number) => {
-            line.append(b"#")?;
-            add_number(alloc, i64::from(*number), line)
-        }
+        Entry::Filter(number) => add_number(" #", i64::from(*number), line),
     }
 }
 
 /// The names that an expression refers to, in brackets; a column with a slash in front.
-pub fn add_code(code: &Code, line: &mut Bytes) -> Result<(), CaseFault> {
+pub fn add_code(code: &Code, line: &mut String) -> Result<(), CaseFault> {
     match code {
-        Code::Expr(written) => add_references(&written.references, line),
-        Code::Number(written) => add_references(&written.references, line),
+        Code::Expr(written) => add_references(written.references.as_slice(), line),
+        Code::Number(written) => add_references(written.references.as_slice(), line),
         Code::Absent | Code::Liquid | Code::Syntax(_) => Ok(()),
     }
 }
 
-fn add_references(references: &Items<Reference>, line: &mut Bytes) -> Result<(), CaseFault> {
-    line.append(b" (")?;
-    for (place, reference) in references.as_slice().iter().enumerate() {
-        if place > 0 {
-            line.append(b" ")?;
-        }
-        match reference {
-            Reference::Own(name) => line.append(name.as_bytes())?,
-            Reference::Of(view, name) => {
-                line.append(view.as_bytes())?;
-                line.append(b".")?;
-                line.append(name.as_bytes())?;
-            }
-            Reference::Column(name) => {
-                line.append(b"/")?;
-                line.append(name.as_bytes())?;
-            }
-        }
+fn add_references(references: &[Reference], line: &mut String) -> Result<(), CaseFault> {
+    line.push_str(" (")?;
+    let mut between = "";
+    for reference in references {
+        add_reference(between, reference, line)?;
+        between = " ";
     }
-    Ok(line.append(b")")?)
+    Ok(line.push_str(")")?)
 }
 
-/// Filters, each as a name and a text.
-pub fn add_filters(filters: &[FilterText], line: &mut Bytes) -> Result<(), CaseFault> {
+fn add_reference(between: &str, reference: &Reference, line: &mut String) -> Result<(), CaseFault> {
+    match reference {
+        Reference::Own(name) => add_all(&[between, name.as_str()], line),
+        Reference::Of(view, name) => add_all(&[between, view.as_str(), ".", name.as_str()], line),
+        Reference::Column(name) => add_all(&[between, "/", name.as_str()], line),
+    }
+}
+
+/// A title, and filters, each as a name and a text.
+pub fn add_filters(
+    title: &str,
+    filters: &[FilterText],
+    line: &mut String,
+) -> Result<(), CaseFault> {
+    line.push_str(title)?;
     for filter in filters {
-        line.append(b" ")?;
-        line.append(filter.name.as_bytes())?;
-        line.append(b": ")?;
-        line.append(filter.text.as_bytes())?;
+        add_all(
+            &[" ", filter.name.as_str(), ": ", filter.text.as_str()],
+            line,
+        )?;
     }
     Ok(())
 }
 
-/// Texts, each behind a space.
-pub fn add_texts(texts: &[Text], line: &mut Bytes) -> Result<(), CaseFault> {
+/// A title, and texts, each behind a space.
+pub fn add_texts(title: &str, texts: &[Text], line: &mut String) -> Result<(), CaseFault> {
+    line.push_str(title)?;
     for text in texts {
-        line.append(b" ")?;
-        line.append(text.as_bytes())?;
+        add_all(&[" ", text.as_str()], line)?;
     }
     Ok(())
-}
-
-/// The line as text.
-pub fn finished(alloc: Global, line: &Bytes) -> Result<Text, CaseFault> {
-    Ok(Text::from_utf8(alloc, line.as_slice())?.ok_or(CaseFault::NoSuchCase)?)
 }

@@ -1,70 +1,63 @@
-use crate::parts::{add_code, add_entry, add_filters, add_number, add_optional, finished};
+use crate::parts::{add_all, add_code, add_filters, add_names, add_number, or_none};
 use case_lines::CaseFault;
 use lk_objects::{DeclaredField, DeclaredView, DerivedTable, DimensionType, FieldSort, Rows};
 use lk_types::{Frame, Op};
-use lk_val::{Bytes, Text};
 use std::alloc::Global;
 
 /// What a view says: where its rows come from, and its fields.
-pub fn answer_view(alloc: Global, view: &DeclaredView) -> Result<Text, CaseFault> {
-    let mut line = Bytes::new(alloc);
-    add_rows(alloc, &view.rows, &mut line)?;
+pub fn answer_view(alloc: Global, view: &DeclaredView) -> Result<String, CaseFault> {
+    let mut line = String::new(alloc);
+    add_view(view, &mut line)?;
+    Ok(line)
+}
+
+fn add_view(view: &DeclaredView, line: &mut String) -> Result<(), CaseFault> {
+    add_rows(&view.rows, line)?;
     for field in view.fields.as_slice() {
-        line.append(b"; ")?;
-        add_field(alloc, field, &mut line)?;
-    }
-    finished(alloc, &line)
-}
-
-fn add_rows(alloc: Global, rows: &Rows, line: &mut Bytes) -> Result<(), CaseFault> {
-    match rows {
-        Rows::Stored(Some(number)) => {
-            line.append(b"table ")?;
-            add_number(alloc, i64::from(*number), line)
-        }
-        Rows::Stored(None) => Ok(line.append(b"no table")?),
-        Rows::Derived(table) => add_derived(alloc, table, line),
-    }
-}
-
-fn add_derived(alloc: Global, table: &DerivedTable, line: &mut Bytes) -> Result<(), CaseFault> {
-    line.append(b"from ")?;
-    add_optional(&table.explore, line)?;
-    for column in table.columns.as_slice() {
-        line.append(b" ")?;
-        line.append(column.name.as_bytes())?;
-        line.append(b"=")?;
-        line.append(column.field.as_bytes())?;
-    }
-    line.append(b" by ")?;
-    add_optional(&table.datagroup, line)?;
-    line.append(b" names")?;
-    for entry in table.entries.as_slice() {
-        line.append(b" ")?;
-        add_entry(alloc, entry, line)?;
+        add_field(field, line)?;
     }
     Ok(())
 }
 
+fn add_rows(rows: &Rows, line: &mut String) -> Result<(), CaseFault> {
+    match rows {
+        Rows::Stored(Some(number)) => add_number("table ", i64::from(*number), line),
+        Rows::Stored(None) => Ok(line.push_str("no table")?),
+        Rows::Derived(table) => add_derived(table, line),
+    }
+}
+
+fn add_derived(table: &DerivedTable, line: &mut String) -> Result<(), CaseFault> {
+    add_all(&["from ", or_none(&table.explore)], line)?;
+    for column in table.columns.as_slice() {
+        add_all(
+            &[" ", column.name.as_str(), "=", column.field.as_str()],
+            line,
+        )?;
+    }
+    add_names(&table.datagroup, table.entries.as_slice(), line)
+}
+
 // A field with its sort, the names in its `sql`, and what else it has.
-fn add_field(alloc: Global, field: &DeclaredField, line: &mut Bytes) -> Result<(), CaseFault> {
-    line.append(sort_name(field.sort).as_bytes())?;
-    line.append(b" ")?;
-    line.append(field.name.as_bytes())?;
+fn add_field(field: &DeclaredField, line: &mut String) -> Result<(), CaseFault> {
+    add_all(&["; ", sort_name(field.sort), " "], line)?;
+    line.push_str(field.name.as_str())?;
     add_code(&field.sql, line)?;
-    if field.is_key {
-        line.append(b" key")?;
-    }
+    line.push_str(if field.is_key { " key" } else { "" })?;
     add_code(&field.key, line)?;
-    for frame in field.frames.as_slice() {
-        line.append(b" ")?;
-        line.append(frame_name(*frame).as_bytes())?;
+    add_groups(field.frames.as_slice(), field.tiers.as_slice(), line)?;
+    add_filters("", field.filters.as_slice(), line)
+}
+
+// Timeframes by their names, and the bounds of tiers.
+fn add_groups(frames: &[Frame], bounds: &[i64], line: &mut String) -> Result<(), CaseFault> {
+    for frame in frames {
+        add_all(&[" ", frame_name(*frame)], line)?;
     }
-    for bound in field.tiers.as_slice() {
-        line.append(b" ")?;
-        add_number(alloc, *bound, line)?;
+    for bound in bounds {
+        add_number(" ", *bound, line)?;
     }
-    add_filters(field.filters.as_slice(), line)
+    Ok(())
 }
 
 fn sort_name(sort: FieldSort) -> &'static str {

@@ -1,105 +1,104 @@
 use case_lines::CaseFault;
 use lk_body::QueryFault;
-use lk_types::{Bound, Filter, Pick};
-use lk_val::{Bytes, Text};
+use lk_types::{Bound, Filter, Pick, Sort};
+use lk_val::Text;
 use std::alloc::Global;
 
 /// What a query means: its picks, joins, filters, sorts and limit, by numbers.
-pub fn answer_bound(alloc: Global, bound: &Bound) -> Result<Text, CaseFault> {
-    let mut line = Bytes::new(alloc);
-    line.append(b"picks")?;
-    for pick in bound.picks.as_slice() {
-        add_pick(alloc, *pick, &mut line)?;
-    }
-    line.append(b"; joins")?;
-    for join in bound.joins.as_slice() {
-        add_number(alloc, i64::from(*join), &mut line)?;
-    }
-    add_filters(alloc, b"; access", bound.access.as_slice(), &mut line)?;
-    add_filters(alloc, b"; rows", bound.rows.as_slice(), &mut line)?;
-    add_filters(alloc, b"; having", bound.having.as_slice(), &mut line)?;
-    line.append(b"; sorts")?;
-    for sort in bound.sorts.as_slice() {
-        add_number(alloc, i64::from(sort.place), &mut line)?;
-        line.append(if sort.down { b" down" } else { b" up" })?;
-    }
-    line.append(b"; limit")?;
-    add_number(alloc, i64::from(bound.limit), &mut line)?;
-    if bound.fresh {
-        line.append(b" fresh")?;
-    }
-    if bound.csv {
-        line.append(b" csv")?;
-    }
-    Ok(Text::from_utf8(alloc, line.as_slice())?.ok_or(CaseFault::NoSuchCase)?)
+pub fn answer_bound(alloc: Global, bound: &Bound) -> Result<String, CaseFault> {
+    let mut line = String::new(alloc);
+    add_bound(bound, &mut line)?;
+    Ok(line)
 }
 
-fn add_number(alloc: Global, number: i64, line: &mut Bytes) -> Result<(), CaseFault> {
-    let text = format!(in alloc; " {number}")?;
-    Ok(line.append(text.as_bytes())?)
+fn add_bound(bound: &Bound, line: &mut String) -> Result<(), CaseFault> {
+    add_picks(bound.picks.as_slice(), line)?;
+    add_joins(bound.joins.as_slice(), line)?;
+    add_filters("; access", bound.access.as_slice(), line)?;
+    add_filters("; rows", bound.rows.as_slice(), line)?;
+    add_filters("; having", bound.having.as_slice(), line)?;
+    add_sorts(bound.sorts.as_slice(), line)?;
+    add_number("; limit ", bound.limit, line)?;
+    add_if(bound.fresh, " fresh", line)?;
+    add_if(bound.csv, " csv", line)
 }
 
-// A dimension as `d` and its number, a measure as `m`.
-fn add_pick(alloc: Global, pick: Pick, line: &mut Bytes) -> Result<(), CaseFault> {
-    let text = match pick {
-        Pick::Dim(number) => format!(in alloc; " d{number}")?,
-        Pick::Mea(number) => format!(in alloc; " m{number}")?,
-    };
-    Ok(line.append(text.as_bytes())?)
+// Dimensions as `d` and their numbers, measures as `m`.
+fn add_picks(picks: &[Pick], line: &mut String) -> Result<(), CaseFault> {
+    line.push_str("picks")?;
+    for pick in picks {
+        match pick {
+            Pick::Dim(number) => add_number(" d", *number, line)?,
+            Pick::Mea(number) => add_number(" m", *number, line)?,
+        }
+    }
+    Ok(())
+}
+
+fn add_joins(joins: &[u32], line: &mut String) -> Result<(), CaseFault> {
+    line.push_str("; joins")?;
+    for join in joins {
+        add_number(" ", *join, line)?;
+    }
+    Ok(())
+}
+
+fn add_sorts(sorts: &[Sort], line: &mut String) -> Result<(), CaseFault> {
+    line.push_str("; sorts")?;
+    for sort in sorts {
+        add_number(" ", sort.place, line)?;
+        line.push_str(if sort.down { " down" } else { " up" })?;
+    }
+    Ok(())
+}
+
+fn add_number(title: &str, number: u32, line: &mut String) -> Result<(), CaseFault> {
+    Ok(write!(line, "{title}{number}")?)
+}
+
+fn add_if(condition: bool, word: &str, line: &mut String) -> Result<(), CaseFault> {
+    Ok(line.push_str(if condition { word } else { "" })?)
 }
 
 // Filters by the numbers of what they are on, each with how many includes and excludes it has.
-fn add_filters(
-    alloc: Global,
-    title: &[u8],
-    filters: &[(u32, Filter)],
-    line: &mut Bytes,
-) -> Result<(), CaseFault> {
-    line.append(title)?;
+fn add_filters(title: &str, filters: &[(u32, Filter)], line: &mut String) -> Result<(), CaseFault> {
+    line.push_str(title)?;
     for filter in filters {
-        add_filter(alloc, filter.0, &filter.1, line)?;
+        add_filter(filter.0, &filter.1, line)?;
     }
     Ok(())
 }
 
-fn add_filter(
-    alloc: Global,
-    number: u32,
-    filter: &Filter,
-    line: &mut Bytes,
-) -> Result<(), CaseFault> {
+fn add_filter(number: u32, filter: &Filter, line: &mut String) -> Result<(), CaseFault> {
     let (included, excluded) = (filter.include.len(), filter.exclude.len());
-    let text = format!(in alloc; " {number}:+{included}-{excluded}")?;
-    line.append(text.as_bytes())?;
-    if filter.relative {
-        line.append(b" relative")?;
-    }
-    Ok(())
+    write!(line, " {number}:+{included}-{excluded}")?;
+    add_if(filter.relative, " relative", line)
 }
 
 /// A refusal: its code and what it carries.
-pub fn answer_fault(alloc: Global, fault: &QueryFault) -> Result<Text, CaseFault> {
-    let text = match fault {
-        QueryFault::Q1(name) => named(alloc, "Q1", name)?,
-        QueryFault::Q2(name) => named(alloc, "Q2", name)?,
-        QueryFault::Q3 => format!(in alloc; "Q3")?,
-        QueryFault::Q4(name) => named(alloc, "Q4", name)?,
-        QueryFault::Q5 { field, attribute } => {
-            let (field, attribute) = (field.as_str(), attribute.as_str());
-            format!(in alloc; "Q5 {field} {attribute}")?
-        }
+pub fn answer_fault(alloc: Global, fault: &QueryFault) -> Result<String, CaseFault> {
+    match fault {
+        QueryFault::Q1(name) => named(alloc, "Q1", name),
+        QueryFault::Q2(name) => named(alloc, "Q2", name),
+        QueryFault::Q3 => Ok(String::from_str(alloc, "Q3")?),
+        QueryFault::Q4(name) => named(alloc, "Q4", name),
+        QueryFault::Q5 { field, attribute } => both(alloc, field.as_str(), attribute.as_str()),
         QueryFault::Q6 { field, place } => {
             let field = field.as_str();
-            format!(in alloc; "Q6 {field} {place}")?
+            Ok(format!(in alloc; "Q6 {field} {place}")?)
         }
-        QueryFault::Q7(name) => named(alloc, "Q7", name)?,
-        QueryFault::Q8(limit) => format!(in alloc; "Q8 {limit}")?,
-        QueryFault::NoMemory => return Err(CaseFault::NoMemory),
-    };
-    Ok(Text::from_string(text))
+        QueryFault::Q7(name) => named(alloc, "Q7", name),
+        QueryFault::Q8(limit) => Ok(format!(in alloc; "Q8 {limit}")?),
+        QueryFault::NoMemory => Err(CaseFault::NoMemory),
+    }
 }
 
 fn named(alloc: Global, code: &str, name: &Text) -> Result<String, CaseFault> {
     let name = name.as_str();
     Ok(format!(in alloc; "{code} {name}")?)
+}
+
+// The field of an access filter, and the attribute that the caller lacks.
+fn both(alloc: Global, field: &str, attribute: &str) -> Result<String, CaseFault> {
+    Ok(format!(in alloc; "Q5 {field} {attribute}")?)
 }

@@ -1,11 +1,21 @@
-ghost use Rattle.std.specs.Prelude.{◌≤◌, IfOk, length};
+// Explores of orders and of events.
 
-use crate::parts::{fields, join, measures, part};
+use crate::parts::{
+    add_access, add_fields, add_filter, add_joins, add_measures, add_part, add_parts, add_ratio,
+};
 use case_lines::CaseFault;
-use lk_filter::{FilterKind, read_filter};
-use lk_types::{Arithmetic, Explore, Filter, Kind, Measure, NumExpr, NumNode, Op, Relation};
-use lk_val::{Items, Text};
+use lk_filter::FilterKind;
+use lk_types::{Explore, Kind, Op, Relation};
 use std::alloc::Global;
+
+// Number and name.
+const ORDER_VIEWS: [(u32, &str); 3] = [(0, "orders"), (1, "users"), (2, "items")];
+
+// Relation, two columns, and the joins that are brought with it.
+const ORDER_JOINS: [(Relation, (u32, u32), (u32, u32), &[u32]); 2] = [
+    (Relation::ManyToOne, (0, 1), (1, 0), &[]),
+    (Relation::OneToMany, (2, 1), (0, 0), &[]),
+];
 
 // Name, part, column and kind.
 const ORDER_FIELDS: [(&str, u32, u32, Kind); 9] = [
@@ -28,6 +38,13 @@ const ORDER_MEASURES: [(&str, u32, Op, u32, Kind); 4] = [
     ("orders.total", 0, Op::Sum, 4, Kind::Number),
 ];
 
+const EVENT_JOINS: [(Relation, (u32, u32), (u32, u32), &[u32]); 1] = [(
+    Relation::OneToMany,
+    (1, 0),
+    (0, 0),
+    &[],
+)];
+
 const EVENT_FIELDS: [(&str, u32, u32, Kind); 2] = [
     ("clicks.page", 1, 1, Kind::Text),
     ("events.name", 0, 1, Kind::Text),
@@ -41,99 +58,33 @@ const EVENT_MEASURES: [(&str, u32, Op, u32, Kind); 4] = [
 ];
 
 /// Orders with their users and items, which have keys; the rows of a caller are those of the caller's region.
-pub fn orders(alloc: Global) -> Result<Explore, CaseFault>
-    ensures few { IfOk result (λ x. length x.joins ≤ 31) }
-{
-    let mut parts = Items::new(alloc);
-    parts.push(part(alloc, 0, "orders", true)?)?;
-    parts.push(part(alloc, 1, "users", true)?)?;
-    parts.push(part(alloc, 2, "items", true)?)?;
-    let mut joins = Items::new(alloc);
-    joins.push(join(alloc, Relation::ManyToOne, (0, 1), (1, 0))?)?;
-    joins.push(join(alloc, Relation::OneToMany, (2, 1), (0, 0))?)?;
-    let mut access = Items::new(alloc);
-    access.push((8u32, Text::from_str(alloc, "region")?))?;
-    Ok(Explore {
-        name: Text::from_str(alloc, "orders")?,
-        parts,
-        joins,
-        fields: fields(alloc, &ORDER_FIELDS)?,
-        measures: measures(alloc, &ORDER_MEASURES)?,
-        always_join: Items::new(alloc),
-        always: Items::new(alloc),
-        always_where: None,
-        access,
-        rollups: Items::new(alloc),
-    })
+pub fn orders(alloc: Global, x: &mut Explore) -> Result<(), CaseFault> {
+    add_parts(alloc, &ORDER_VIEWS, x)?;
+    add_joins(alloc, &ORDER_JOINS, x)?;
+    add_access(alloc, 8, "region", x)?;
+    any_orders(alloc, x)
 }
 
 /// Orders of today that are open, unless a query says otherwise.
-pub fn todays_orders(alloc: Global) -> Result<Explore, CaseFault>
-    ensures few { IfOk result (λ x. length x.joins ≤ 31) }
-{
-    let mut parts = Items::new(alloc);
-    parts.push(part(alloc, 0, "orders", true)?)?;
-    let mut always = Items::new(alloc);
-    always.push((1u32, filter(alloc, FilterKind::Date, "today")?))?;
-    always.push((7u32, filter(alloc, FilterKind::Text, "open")?))?;
-    Ok(Explore {
-        name: Text::from_str(alloc, "todays_orders")?,
-        parts,
-        joins: Items::new(alloc),
-        fields: fields(alloc, &ORDER_FIELDS)?,
-        measures: measures(alloc, &ORDER_MEASURES)?,
-        always_join: Items::new(alloc),
-        always,
-        always_where: None,
-        access: Items::new(alloc),
-        rollups: Items::new(alloc),
-    })
+pub fn todays_orders(alloc: Global, x: &mut Explore) -> Result<(), CaseFault> {
+    add_parts(alloc, &ORDER_VIEWS[..1], x)?;
+    add_filter(alloc, 1, FilterKind::Date, "today", &mut x.always)?;
+    add_filter(alloc, 7, FilterKind::Text, "open", &mut x.always)?;
+    any_orders(alloc, x)
 }
 
-/// The filter of a kind that a text spells.
-pub fn filter(alloc: Global, kind: FilterKind, text: &str) -> Result<Filter, CaseFault> {
-    read_filter(alloc, kind, text.as_bytes()).or(Err(CaseFault::NoSuchCase))
+fn any_orders(alloc: Global, x: &mut Explore) -> Result<(), CaseFault> {
+    add_fields(alloc, &ORDER_FIELDS, x)?;
+    add_measures(alloc, &ORDER_MEASURES, x)
 }
 
-/// Events without a primary key, and their clicks, of which one event may have many.
-pub fn events(alloc: Global) -> Result<Explore, CaseFault>
-    ensures few { IfOk result (λ x. length x.joins ≤ 31) }
-{
-    let mut parts = Items::new(alloc);
-    parts.push(part(alloc, 0, "events", false)?)?;
-    parts.push(part(alloc, 1, "clicks", false)?)?;
-    let mut joins = Items::new(alloc);
-    joins.push(join(alloc, Relation::OneToMany, (1, 0), (0, 0))?)?;
-    let mut measures = measures(alloc, &EVENT_MEASURES)?;
-    measures.push(mean(alloc)?)?;
-    Ok(Explore {
-        name: Text::from_str(alloc, "events")?,
-        parts,
-        joins,
-        fields: fields(alloc, &EVENT_FIELDS)?,
-        measures,
-        always_join: Items::new(alloc),
-        always: Items::new(alloc),
-        always_where: None,
-        access: Items::new(alloc),
-        rollups: Items::new(alloc),
-    })
-}
-
-// The total of events over their number.
-fn mean(alloc: Global) -> Result<Measure, CaseFault> {
-    let mut nodes = Items::new(alloc);
-    nodes.push(NumNode::Measure(3))?;
-    nodes.push(NumNode::Measure(1))?;
-    nodes.push(NumNode::Number(Arithmetic::Over))?;
-    Ok(Measure {
-        name: Text::from_str(alloc, "events.mean")?,
-        part: 0,
-        op: Op::Number,
-        kind: Kind::Number,
-        value: None,
-        key: None,
-        filters: Items::new(alloc),
-        number: Some(NumExpr::from_nodes(nodes).ok_or(CaseFault::NoSuchCase)?),
-    })
+/// Events without a primary key, and their clicks, of which one event may have many; the last measure is the total of
+/// events over their number.
+pub fn events(alloc: Global, x: &mut Explore) -> Result<(), CaseFault> {
+    add_part(alloc, 0, "events", None, x)?;
+    add_part(alloc, 1, "clicks", None, x)?;
+    add_joins(alloc, &EVENT_JOINS, x)?;
+    add_fields(alloc, &EVENT_FIELDS, x)?;
+    add_measures(alloc, &EVENT_MEASURES, x)?;
+    add_ratio(alloc, "events.mean", 3, 1, x)
 }

@@ -1,7 +1,7 @@
 ghost use Rattle.std.specs.Prelude.{◌<◌, IfSome};
 
 use crate::wrong::Wrong;
-use lk_val::Text;
+use lk_val::{Text, as_text};
 use std::alloc::{AllocError, Global};
 
 /// The words of a line, which bars part. Spaces around a word don't count.
@@ -12,16 +12,27 @@ pub fn words_of(alloc: Global, line: &str) -> Result<Vec<&str>, AllocError> {
 /// The bytes that a word writes, where `\n`, `\r` and `\xHH` are one byte each.
 pub fn bytes_of(alloc: Global, word: &str) -> Result<Vec<u8>, Wrong> {
     let mut bytes = Vec::new(alloc);
-    for (place, part) in word.split('\\').enumerate() {
-        let mut plain = part.as_bytes();
-        if place > 0 {
-            let (byte, rest) = escaped(plain).ok_or(Wrong::Case)?;
-            bytes.push(byte)?;
-            plain = rest;
-        }
-        bytes.extend_from_slice(plain)?;
-    }
+    append_written(&mut bytes, word)?;
     Ok(bytes)
+}
+
+fn append_written(bytes: &mut Vec<u8>, word: &str) -> Result<(), Wrong> {
+    let mut parts = word.split('\\');
+    if let Some(plain) = parts.next() {
+        bytes.extend_from_slice(plain.as_bytes())?;
+    }
+    for part in parts {
+        append_escaped(bytes, part.as_bytes())?;
+    }
+    Ok(())
+}
+
+// What stands behind a backslash: one byte, and plain ones behind it.
+fn append_escaped(bytes: &mut Vec<u8>, part: &[u8]) -> Result<(), Wrong> {
+    let (byte, rest) = escaped(part).ok_or(Wrong::Case)?;
+    bytes.push(byte)?;
+    bytes.extend_from_slice(rest)?;
+    Ok(())
 }
 
 // The byte whose escape stands in front, and what is behind it.
@@ -45,9 +56,17 @@ fn digit_of(character: u8) -> Option<u8>
     }
 }
 
-/// A text on one line: its line ends are written as `\n` and `\r`.
-pub fn on_one_line(alloc: Global, text: &str) -> Result<Text, Wrong> {
+/// Bytes as a text on one line: its line ends are written as `\n` and `\r`.
+pub fn on_one_line(alloc: Global, bytes: &[u8]) -> Result<Text, Wrong> {
+    let Some(text) = as_text(bytes) else {
+        return Err(Wrong::Case);
+    };
     let mut line = String::new(alloc);
+    push_on_one_line(&mut line, text)?;
+    Ok(Text::from_string(line))
+}
+
+fn push_on_one_line(line: &mut String, text: &str) -> Result<(), Wrong> {
     for character in text.chars() {
         match character {
             '\n' => line.push_str("\\n")?,
@@ -55,7 +74,7 @@ pub fn on_one_line(alloc: Global, text: &str) -> Result<Text, Wrong> {
             other => line.push(other)?,
         }
     }
-    Ok(Text::from_string(line))
+    Ok(())
 }
 
 /// The text as the answer to a case.

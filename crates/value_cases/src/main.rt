@@ -13,7 +13,7 @@ mod wrong;
 
 use crate::line::words_of;
 use crate::wrong::Wrong;
-use lk_val::Text;
+use lk_val::{Bytes, Cell, Frac, Text, Value};
 use std::alloc::Global;
 use std::io;
 use std::io::ErrorKind;
@@ -32,21 +32,29 @@ fn main(rt: HostRuntime) -> ExitCode {
 fn answer_lines(rt: &HostRuntime) -> io::Result<()> {
     for line in rt.lines(rt.alloc()) {
         let line = line?;
-        match answer(rt.alloc(), line.as_str()) {
-            Ok(text) => {
-                let text = text.as_str();
-                println!(rt; "{text}")?;
-            }
-            Err(Wrong::Case) => println!(rt; "no such case")?,
-            Err(Wrong::Memory) => return Err(io::Error::from(ErrorKind::OutOfMemory)),
-        }
+        answer_line(rt, line.as_str())?;
     }
     Ok(())
+}
+
+fn answer_line(rt: &HostRuntime, line: &str) -> io::Result<()> {
+    match answer(rt.alloc(), line) {
+        Ok(text) => {
+            let text = text.as_str();
+            println!(rt; "{text}")
+        }
+        Err(Wrong::Case) => println!(rt; "no such case"),
+        Err(Wrong::Memory) => Err(io::Error::from(ErrorKind::OutOfMemory)),
+    }
 }
 
 // What a line comes to, by its first word.
 fn answer(alloc: Global, line: &str) -> Result<Text, Wrong> {
     let words = words_of(alloc, line)?;
+    answer_words(alloc, words.as_slice())
+}
+
+fn answer_words(alloc: Global, words: &[&str]) -> Result<Text, Wrong> {
     let Some((task, words)) = words.split_first() else {
         return Err(Wrong::Case);
     };
@@ -83,10 +91,10 @@ fn answer_two(alloc: Global, task: &str, first: &str, second: &str) -> Result<Te
 
 fn answer_many(alloc: Global, task: &str, words: &[&str]) -> Result<Text, Wrong> {
     match task {
-        "ascending values" => orders::values(alloc, words),
-        "ascending cells" => orders::cells(alloc, words),
-        "ascending fractions" => orders::fractions(alloc, words),
-        "ascending bytes" => orders::bytes(alloc, words),
+        "ascending values" => orders::ascend::<Value>(alloc, words),
+        "ascending cells" => orders::ascend::<Cell>(alloc, words),
+        "ascending fractions" => orders::ascend::<Frac>(alloc, words),
+        "ascending bytes" => orders::ascend::<Bytes>(alloc, words),
         "different" => texts::differ(alloc, words),
         "among" => texts::is_among(alloc, words),
         "fault" => texts::print_fault(alloc, words),

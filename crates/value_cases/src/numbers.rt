@@ -15,18 +15,30 @@ pub fn read(alloc: Global, text: &str) -> Result<Text, Wrong> {
 
 /// A count of 1/10,000 as a number.
 pub fn print(alloc: Global, text: &str) -> Result<Text, Wrong> {
-    let count = text.parse::<i128>().or(Err(Wrong::Case))?;
-    Ok(print_count(alloc, count)?)
+    Ok(print_count(alloc, whole_of(text)?)?)
+}
+
+/// The whole number that a word writes.
+pub fn whole_of(word: &str) -> Result<i128, Wrong> {
+    word.parse::<i128>().or(Err(Wrong::Case))
 }
 
 /// The result of `a plus b`, `a less b`, `a times b`, `a over b` or `minus a`.
 pub fn compute(alloc: Global, text: &str) -> Result<Text, Wrong> {
-    let words: Vec<&str> = text.split(' ').collect(alloc)?;
-    match words.as_slice() {
-        [sign, a] if *sign == "minus" => show(alloc, number_of(a)?.neg()),
-        [a, sign, b] => show(alloc, result_of(number_of(a)?, sign, number_of(b)?)?),
-        _ => Err(Wrong::Case),
+    show(alloc, computed(text)?)
+}
+
+fn computed(text: &str) -> Result<Option<Num>, Wrong> {
+    let Some((first, rest)) = text.split_once(' ') else {
+        return Err(Wrong::Case);
+    };
+    if first == "minus" {
+        return Ok(number_of(rest)?.neg());
     }
+    let Some((sign, second)) = rest.split_once(' ') else {
+        return Err(Wrong::Case);
+    };
+    result_of(number_of(first)?, sign, number_of(second)?)
 }
 
 fn result_of(a: Num, sign: &str, b: Num) -> Result<Option<Num>, Wrong> {

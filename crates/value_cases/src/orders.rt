@@ -2,85 +2,96 @@ use crate::fractions::fraction_of;
 use crate::line::{bytes_of, said};
 use crate::values::{cell_of, value_of};
 use crate::wrong::Wrong;
-use lk_val::{Bytes, Cell, Frac, Text, Value, cmp_cell};
+use lk_val::{Bytes, Cell, Frac, Items, Text, Value, cmp_cell};
 use std::alloc::Global;
 use std::cmp::Ordering;
 
-/// What has an order.
-trait Ordered {
+/// What words write, and has an order.
+pub trait Ordered {
+    /// What a word writes.
+    fn read(alloc: Global, word: &str) -> Result<Self, Wrong>;
+
     /// The order of the two.
     fn order(&self, other: &Self) -> Ordering;
 }
 
 impl Ordered for Value {
+    fn read(alloc: Global, word: &str) -> Result<Value, Wrong> {
+        value_of(alloc, word)
+    }
+
     fn order(&self, other: &Value) -> Ordering {
         self.as_ref().cmp(other.as_ref())
     }
 }
 
 impl Ordered for Cell {
+    fn read(alloc: Global, word: &str) -> Result<Cell, Wrong> {
+        cell_of(alloc, word)
+    }
+
     fn order(&self, other: &Cell) -> Ordering {
         cmp_cell(self, other)
     }
 }
 
 impl Ordered for Frac {
+    fn read(_: Global, word: &str) -> Result<Frac, Wrong> {
+        fraction_of(word)
+    }
+
     fn order(&self, other: &Frac) -> Ordering {
         (*self).cmp(*other)
     }
 }
 
 impl Ordered for Bytes {
+    fn read(alloc: Global, word: &str) -> Result<Bytes, Wrong> {
+        Ok(Bytes::from_vec(bytes_of(alloc, word)?))
+    }
+
     fn order(&self, other: &Bytes) -> Ordering {
         self.cmp(other)
     }
 }
 
-/// Whether the values stand in their order.
-pub fn values(alloc: Global, words: &[&str]) -> Result<Text, Wrong> {
-    let mut values = Vec::new(alloc);
-    for word in words {
-        values.push(value_of(alloc, word)?)?;
-    }
-    ascend(alloc, values.as_slice())
+/// Whether what the words write stands in its order.
+pub fn ascend<T: Ordered + Drop>(alloc: Global, words: &[&str]) -> Result<Text, Wrong> {
+    let mut items = Items::new(alloc);
+    push_items::<T>(alloc, &mut items, words)?;
+    show_misplaced(alloc, misplaced(items.as_slice()))
 }
 
-/// Whether the cells stand in their order.
-pub fn cells(alloc: Global, words: &[&str]) -> Result<Text, Wrong> {
-    let mut cells = Vec::new(alloc);
-    for word in words {
-        cells.push(cell_of(alloc, word)?)?;
+fn show_misplaced(alloc: Global, places: Option<(usize, usize)>) -> Result<Text, Wrong> {
+    match places {
+        Some((place, other)) => {
+            let text = format!(in alloc; "not at {place} and {other}")?;
+            Ok(Text::from_string(text))
+        }
+        None => said(alloc, "yes"),
     }
-    ascend(alloc, cells.as_slice())
 }
 
-/// Whether the fractions stand in their order.
-pub fn fractions(alloc: Global, words: &[&str]) -> Result<Text, Wrong> {
-    let mut fractions = Vec::new(alloc);
+fn push_items<T: Ordered + Drop>(
+    alloc: Global,
+    items: &mut Items<T>,
+    words: &[&str],
+) -> Result<(), Wrong> {
     for word in words {
-        fractions.push(fraction_of(word)?)?;
+        items.push(T::read(alloc, word)?)?;
     }
-    ascend(alloc, fractions.as_slice())
+    Ok(())
 }
 
-/// Whether the bytes stand in their order.
-pub fn bytes(alloc: Global, words: &[&str]) -> Result<Text, Wrong> {
-    let mut texts = Vec::new(alloc);
-    for word in words {
-        texts.push(Bytes::from_vec(bytes_of(alloc, word)?))?;
-    }
-    ascend(alloc, texts.as_slice())
-}
-
-// Whether each is before all that follow it, behind all that come before it, and even with itself.
-fn ascend<T: Ordered>(alloc: Global, items: &[T]) -> Result<Text, Wrong> {
+// The places of the first item, and the first other, that don't stand so that each is before all that follow it, behind all
+// that come before it, and even with itself.
+fn misplaced<T: Ordered>(items: &[T]) -> Option<(usize, usize)> {
     for (place, item) in items.iter().enumerate() {
         for (other_place, other) in items.iter().enumerate() {
             if item.order(other) != place.cmp(&other_place) {
-                let text = format!(in alloc; "not at {place} and {other_place}")?;
-                return Ok(Text::from_string(text));
+                return Some((place, other_place));
             }
         }
     }
-    said(alloc, "yes")
+    None
 }

@@ -21,16 +21,25 @@ pub fn is_among(alloc: Global, words: &[&str]) -> Result<Text, Wrong> {
         return Err(Wrong::Case);
     };
     let texts = texts_of(alloc, words)?;
+    is_one_of(alloc, word, texts.as_slice())
+}
+
+fn is_one_of(alloc: Global, word: &str, texts: &[Text]) -> Result<Text, Wrong> {
     let text = Text::from_str(alloc, word)?;
-    yes_or_no(alloc, lk_val::is_among(&text, texts.as_slice()))
+    yes_or_no(alloc, lk_val::is_among(&text, texts))
 }
 
 fn texts_of(alloc: Global, words: &[&str]) -> Result<Items<Text>, Wrong> {
     let mut texts = Items::new(alloc);
+    push_texts(alloc, &mut texts, words)?;
+    Ok(texts)
+}
+
+fn push_texts(alloc: Global, texts: &mut Items<Text>, words: &[&str]) -> Result<(), Wrong> {
     for word in words {
         texts.push(Text::from_str(alloc, word)?)?;
     }
-    Ok(texts)
+    Ok(())
 }
 
 /// The text that bytes are.
@@ -57,16 +66,34 @@ pub fn is_like(alloc: Global, pattern: &str, text: &str) -> Result<Text, Wrong> 
 
 /// The line of a fault, by its code, its path, its place and two names.
 pub fn print_fault(alloc: Global, parts: &[&str]) -> Result<Text, Wrong> {
+    let mut fault = FaultLine {
+        code: Text::new(alloc),
+        path: Text::new(alloc),
+        place: 0,
+        name: Text::new(alloc),
+        other: Text::new(alloc),
+    };
+    fill_fault(alloc, &mut fault, parts)?;
+    show_fault(alloc, &fault)
+}
+
+fn fill_fault(alloc: Global, fault: &mut FaultLine, parts: &[&str]) -> Result<(), Wrong> {
     let [code, path, place, name, other] = parts else {
         return Err(Wrong::Case);
     };
-    let fault = FaultLine {
-        code: Text::from_str(alloc, code)?,
-        path: Text::from_str(alloc, path)?,
-        place: place.parse::<u32>().or(Err(Wrong::Case))?,
-        name: Text::from_str(alloc, name)?,
-        other: Text::from_str(alloc, other)?,
-    };
+    fault.place = place.parse::<u32>().or(Err(Wrong::Case))?;
+    fill(alloc, &mut fault.code, code)?;
+    fill(alloc, &mut fault.path, path)?;
+    fill(alloc, &mut fault.name, name)?;
+    fill(alloc, &mut fault.other, other)
+}
+
+fn fill(alloc: Global, text: &mut Text, word: &str) -> Result<(), Wrong> {
+    *text = Text::from_str(alloc, word)?;
+    Ok(())
+}
+
+fn show_fault(alloc: Global, fault: &FaultLine) -> Result<Text, Wrong> {
     let line = fault.print(alloc)?;
     said(alloc, line.as_str().trim_end())
 }

@@ -4,21 +4,25 @@ ghost use Rattle.lk_types.specs.declared.schema.Frame.TheVariants as frame_is;
 ghost use Rattle.lk_time.specs.FrameValues.{IsInYears};
 
 use crate::line::{said, yes_or_no};
-use crate::values::{frame_of, value_of};
+use crate::values::{frame_of, show, value_of};
 use crate::wrong::Wrong;
 use lk_time::NotHad;
-use lk_types::{Frame, Shape, print_cell};
-use lk_val::{Cell, Text, Value};
+use lk_types::Frame;
+use lk_val::{Text, Value};
 use std::alloc::Global;
 
 /// The timeframe of a value; a day of the week by its name.
 pub fn frame(alloc: Global, frame: &str, word: &str) -> Result<Text, Wrong> {
-    let value = value_of(alloc, word)?;
     let to = frame_of(frame)?;
-    if !lk_time::is_in_years(&value) {
+    let value = value_of(alloc, word)?;
+    show_framed(alloc, &value, to)
+}
+
+fn show_framed(alloc: Global, value: &Value, to: Frame) -> Result<Text, Wrong> {
+    if !lk_time::is_in_years(value) {
         return Err(Wrong::Case);
     }
-    let framed = lk_time::frame(&value, to);
+    let framed = lk_time::frame(value, to);
     if to == Frame::DayOfWeek {
         show_weekday(alloc, &framed)
     } else {
@@ -31,13 +35,17 @@ pub fn coarsen(alloc: Global, words: &[&str]) -> Result<Text, Wrong> {
     let [fine, coarse, word] = words else {
         return Err(Wrong::Case);
     };
-    let value = value_of(alloc, word)?;
     let fine = frame_of(fine)?;
     let coarse = frame_of(coarse)?;
-    if fine == Frame::DayOfWeek || !lk_time::is_in_years(&value) {
+    let value = value_of(alloc, word)?;
+    show_coarser(alloc, &value, fine, coarse)
+}
+
+fn show_coarser(alloc: Global, value: &Value, fine: Frame, coarse: Frame) -> Result<Text, Wrong> {
+    if fine == Frame::DayOfWeek || !lk_time::is_in_years(value) {
         return Err(Wrong::Case);
     }
-    match coarser(&value, fine, coarse) {
+    match coarser(value, fine, coarse) {
         Ok(framed) => show(alloc, framed),
         Err(NotHad::T1) => said(alloc, "T1"),
     }
@@ -54,13 +62,6 @@ fn coarser(value: &Value, fine: Frame, coarse: Frame) -> Result<Value, NotHad>
 pub fn is_in_years(alloc: Global, word: &str) -> Result<Text, Wrong> {
     let value = value_of(alloc, word)?;
     yes_or_no(alloc, lk_time::is_in_years(&value))
-}
-
-fn show(alloc: Global, value: Value) -> Result<Text, Wrong> {
-    if let Value::Null = value {
-        return said(alloc, "null");
-    }
-    Ok(print_cell(alloc, &Cell::Value(value), &Shape::Plain)?)
 }
 
 fn show_weekday(alloc: Global, value: &Value) -> Result<Text, Wrong> {

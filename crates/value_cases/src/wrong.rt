@@ -2,7 +2,7 @@ use lk_val::NoMemory;
 use std::alloc::{AllocError, AllocFailed};
 
 /// Why a line comes to nothing.
-#[derive(Clone, Copy, Debug, Drop)]
+#[derive(Clone, Copy, Drop)]
 pub enum Wrong {
     /// There is no such case.
     Case,
