@@ -3,7 +3,7 @@ use std::alloc::{AllocError, AllocFailed};
 use std::fmt;
 
 /// Why a line has no answer.
-#[derive(Clone, Copy, Debug, PartialEq, Eq)]
+#[derive(Clone, Copy, PartialEq, Eq)]
 pub enum CaseFault {
     /// The line names no case.
     NoSuchCase,

@@ -2,7 +2,7 @@ use case_lines::CaseFault;
 use lk_filter::FilterKind;
 
 /// What a case is about.
-#[derive(Clone, Copy, Debug, PartialEq, Eq)]
+#[derive(Clone, Copy, PartialEq, Eq)]
 pub enum Subject {
     /// Values of a column, by a filter of its kind.
     Column(FilterKind),

@@ -4,7 +4,7 @@ use lk_val::{Bytes, Cell, NoMemory, Text, Value};
 use std::alloc::Global;
 
 /// What is shown of the rows that were visited.
-#[derive(Debug, Drop)]
+#[derive(Drop)]
 pub struct Shown {
     alloc: Global,
     line: Bytes,

@@ -19,7 +19,7 @@ use std::collections::BTreeMap;
 
 /// What an accumulator groups by and measures: the number of dimensions, and the type of each measure. A `number` is
 /// null, since it is computed from other measures.
-#[derive(Debug, Drop)]
+#[derive(Drop)]
 pub struct AccShape {
     pub dims: u32,
     pub ops: Items<Op>,

@@ -1,7 +1,7 @@
 use lk_val::{NoMemory, Value};
 
 /// Why groups have no measures.
-#[derive(Debug, Drop)]
+#[derive(Drop)]
 pub enum AggFault {
     /// The measure at a place has two values for the key in one group (Q9). It is the least by group, then by the
     /// measure's place, then by key.

@@ -7,7 +7,7 @@ use lk_types::KeyValue;
 use lk_val::{Value, ValueRef};
 
 /// What a row gives to a measure, lent: as `KeyValue`, but key and value stay where they stand.
-#[derive(Clone, Copy, Debug)]
+#[derive(Clone, Copy)]
 pub struct KeyRef<'a> {
     pub key: Option<ValueRef<'a>>,
     pub value: ValueRef<'a>,

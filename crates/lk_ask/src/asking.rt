@@ -1,11 +1,16 @@
-ghost use Rattle.std.specs.Prelude.{◌≡◌, IfOk, length, nat_lt, true};
+ghost use Rattle.std.specs.Prelude.{◌≡◌, ◌+◌, Err, IfOk, length, nat_lt, true};
 ghost use Rattle.lk_val.specs.Memory.{IsUnlessMemory, UnlessMemory};
 ghost use Rattle.lk_val.specs.Years.{IsMomentInYears};
 ghost use Rattle.lk_semantics.specs.Answers.{measure_at};
+ghost use Rattle.lk_semantics.specs.DatedRows.{are_joins_dated, are_sources_dated};
 ghost use Rattle.lk_semantics.specs.Derived.{explore_at};
 ghost use Rattle.lk_semantics.specs.Resolved.{IsInModel, IsResolved};
-ghost use Rattle.lk_filter.specs.PlacedModel.{placed_model};
+ghost use Rattle.lk_filter.specs.PlacedModel.{placed_explore, placed_model};
+ghost use Rattle.lk_gather.specs.Asked.{IsPlan};
+ghost use Rattle.lk_gather.specs.Measures.{is_fine_explore};
 ghost use Rattle.lk_ask.specs.Asks.{HasTables, IsAsked, is_no_memory, told_by, told_over};
+ghost use Rattle.lk_ask.specs.Counts.{IsCounted};
+ghost use Rattle.lk_ask.specs.declared.fault.AskFault.TheVariants as fault;
 
 use crate::fault::{AskFault, refused};
 use crate::told::Told;
@@ -15,8 +20,8 @@ use lk_plan::{compile, conditions_are_dated, joined_rows_meet_conditions};
 use lk_query::{bind_body, bound_queries_are_in_their_model, resolved_models_have_few_joins};
 use lk_schema::Users;
 use lk_table::TableSet;
-use lk_types::{Answer, Bound, Explore, Model};
-use lk_val::{NoMemory, Text};
+use lk_types::{Answer, Bound, Explore, Model, Plan};
+use lk_val::{NoMemory, Text, Value};
 use std::alloc::Global;
 
 // The most visible rows that a query goes over.
@@ -65,15 +70,53 @@ fn answer_bound(
     ensures { IsUnlessMemory is_no_memory result
         (told_over (explore_at (placed_model now m.now) bound.explore) sources.now bound) }
 {
+    match counted_of(alloc, m, sources, &bound, now) {
+        Err(fault) => Err(fault),
+        Ok(counted) => told_by(alloc, explore_of(m, bound.explore), bound, counted),
+    }
+}
+
+// The answer to a query of a resolved model.
+fn counted_of(
+    alloc: Global,
+    m: &Model,
+    sources: &TableSet,
+    bound: &Bound,
+    now: i64,
+) -> Result<Counted, AskFault>
+    requires model { IsResolved m.now }
+    requires bound { IsInModel m.now bound.now }
+    requires tables { HasTables m.now sources.now }
+    ensures { IsCounted (explore_at m.now bound.now.explore) (explore_at (placed_model now m.now) bound.now.explore)
+        sources.now bound.now result }
+{
     resolved_explores_are_fine();
     joined_rows_meet_conditions();
     conditions_are_dated();
-    let plan = compile(alloc, m, &bound)?;
+    let plan = compile(alloc, m, bound)?;
     let x = explore_of(m, bound.explore);
-    match answer(alloc, x, sources, &plan, Some(MOST_ROWS), now) {
+    counted_by(alloc, x, sources, &plan, now)
+}
+
+// The answer by a plan.
+fn counted_by(
+    alloc: Global,
+    x: &Explore,
+    sources: &TableSet,
+    plan: &Plan,
+    now: i64,
+) -> Result<Counted, AskFault>
+    requires parts { length x.now.parts ≡ length x.now.joins + 1 }
+    requires explore { is_fine_explore x.now ≡ true }
+    requires conditions { are_joins_dated x.now ≡ true }
+    requires tables { are_sources_dated sources.now ≡ true }
+    requires plan { IsPlan x.now sources.now plan.now }
+    ensures { IsCounted x.now (placed_explore now x.now) sources.now plan.now.bound result }
+{
+    match answer(alloc, x, sources, plan, Some(MOST_ROWS), now) {
         Err(ExecFault::Many) => Err(AskFault::Q10),
         Err(ExecFault::NoMemory) => Err(AskFault::NoMemory),
-        Ok(counted) => told_by(alloc, x, bound, counted),
+        Ok(counted) => Ok(counted),
     }
 }
 
@@ -100,11 +143,18 @@ fn told_by(alloc: Global, x: &Explore, bound: Bound, counted: Counted) -> Result
             complete,
             visited,
         }),
-        Answer::Duplicate(measure, key) => Err(AskFault::Q9 {
-            measure: measure_name(alloc, x, measure)?,
-            key,
-        }),
+        Answer::Duplicate(measure, key) => duplicate(alloc, x, measure, key),
     }
+}
+
+// The refusal for a key.
+fn duplicate(alloc: Global, x: &Explore, measure: u32, key: Value) -> Result<Told, AskFault>
+    ensures { IsUnlessMemory is_no_memory result (Err (fault.Q9 (measure_at x.now measure).name key)) }
+{
+    Err(AskFault::Q9 {
+        measure: measure_name(alloc, x, measure)?,
+        key,
+    })
 }
 
 // The name of a measure; one that is not there has none.

@@ -6,7 +6,7 @@ use lk_val::{NoMemory, Text, Value};
 
 /// Why a caller's query has no answer. Where it could be refused for several reasons, the first of Q2, Q1, Q3, Q8, Q4, Q5,
 /// Q6, Q7, Q10, Q9 is told. (lookd)
-#[derive(Debug, Drop)]
+#[derive(Drop)]
 pub enum AskFault {
     /// No explore has the name. (Q1)
     Q1(Text),

@@ -2,7 +2,7 @@ use lk_val::{NoMemory, Text};
 
 /// Why a query is refused. A query that could be refused for several reasons is refused for the first of Q2, Q1, Q3, Q8,
 /// Q4, Q5, Q6, Q7. (lookd)
-#[derive(Debug, Drop)]
+#[derive(Drop)]
 pub enum QueryFault {
     /// No explore has the name. (Q1)
     Q1(Text),

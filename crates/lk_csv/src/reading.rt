@@ -14,9 +14,21 @@ pub fn read_records(alloc: Global, text: &[u8]) -> Result<Items<Items<Bytes>>, N
 {
     let mut reader = reader_over(alloc, text);
     let mut row = ByteRecord::new(alloc);
+    rest_of(alloc, &mut reader, &mut row)
+}
+
+// The records that the reader has yet to give, each of which is taken into `row` first.
+fn rest_of(
+    alloc: Global,
+    reader: &mut Reader<&[u8]>,
+    row: &mut ByteRecord,
+) -> Result<Items<Items<Bytes>>, NoMemory>
+    requires { IsReading reader.old }
+    ensures { IfOk result (λ rows. rows ≡ records_left reader.old) }
+{
     let mut rows = Items::new(alloc);
-    while take_record(&mut reader, &mut row)? {
-        rows.push(copy_fields(alloc, &row)?)?;
+    while take_record(reader, row)? {
+        rows.push(copy_fields(alloc, row)?)?;
     }
     Ok(rows)
 }

@@ -8,14 +8,14 @@ use lk_types::{Kind, KindSet};
 use lk_val::Value;
 
 /// What a text literal writes: whether it reads as the cell of a day, and whether as that of a moment.
-#[derive(Clone, Copy, Debug, PartialEq, Eq)]
+#[derive(Clone, Copy, PartialEq, Eq)]
 pub struct Readings {
     pub as_day: bool,
     pub as_moment: bool,
 }
 
 /// What is told of a side of a comparison without its expression: its kinds, and what it writes where it is a text literal.
-#[derive(Clone, Copy, Debug, PartialEq, Eq)]
+#[derive(Clone, Copy, PartialEq, Eq)]
 pub struct Side {
     pub kinds: KindSet,
     pub literal: Option<Readings>,

@@ -61,6 +61,10 @@ load_fault batch.NoMemory = fault.NoMemory
 abbrev pub kept_id : State → LoadCall → LoadedTable → KeptId
 kept_id s call loaded = record { id = call.id; number = s.number + 1; rows = loaded.rows }
 
+-- the next state, with a table as it is then and these kept loads
+abbrev pub state_with : State → ℕ → Content → List KeptId → State
+state_with s number content ids = record { number = s.number + 1; tables = slice_set s.tables number content; ids = ids }
+
 -- the state after a load into the table of a number: the next number, the table as it is then, and the load's id behind the others
 abbrev pub state_after : State → LoadCall → ℕ → LoadedTable → State
 state_after s call number loaded = record {

@@ -6,7 +6,7 @@ use lk_val::{NoMemory, Text, Value};
 use std::alloc::{AllocError, AllocFailed};
 
 /// Why a load is refused. Where it could be for several reasons, the first of L1, L2, L3, L5, L4, L6 is told. (lookd)
-#[derive(Debug, Drop)]
+#[derive(Drop)]
 pub enum LoadFault {
     /// The user of the name has no attribute `loader`. (L1)
     L1(Text),
@@ -60,7 +60,7 @@ pub(crate) fn load_fault(fault: BatchFault) -> LoadFault
 }
 
 /// Why a check is refused. (lookd)
-#[derive(Debug, Drop)]
+#[derive(Drop)]
 pub enum CheckFault {
     /// The user of the name has no attribute `loader`. (G1)
     G1(Text),
@@ -81,7 +81,7 @@ impl From<NoMemory> for CheckFault {
 
 /// Why a server does not open. Of several faults the first kept batch goes before the first seed, and that before the
 /// limits. (lookd)
-#[derive(Debug, Drop)]
+#[derive(Drop)]
 pub enum OpenFault {
     /// The store's count of faults rose.
     Store,

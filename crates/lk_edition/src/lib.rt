@@ -8,6 +8,7 @@ mod edition;
 mod fault;
 mod limits;
 mod loading;
+mod objects;
 mod office;
 mod opening;
 mod plan;

@@ -1,7 +1,10 @@
-ghost use Rattle.std.specs.Prelude.{◌≡◌, ◌<◌, IfOk, length, slice_set};
-ghost use Rattle.lk_val.specs.Memory.{IsUnlessMemory};
+ghost use Rattle.std.specs.Prelude.{◌≡◌, ◌<◌, Err, IfErr, IfOk, IsOkAnd, List, false, length, map, slice_set};
+ghost use Rattle.std.specs.Arc.{arc_value};
+ghost use Rattle.lk_val.specs.Memory.{IsUnlessMemory, Unless};
 ghost use Rattle.lk_load.specs.Loading.{IsTable, table_loaded};
-ghost use Rattle.lk_edition.specs.Loads.{content_at, def_at, into_table, is_loader, is_no_memory, kept_load, load_planned, over_batch, planned, table_named, unless_kept, unless_over};
+ghost use Rattle.lk_ledger.specs.declared.kept.KeptId.{KeptId};
+ghost use Rattle.lk_edition.specs.Limits.{is_over};
+ghost use Rattle.lk_edition.specs.Loads.{content_at, def_at, into_table, is_loader, is_no_memory, kept_load, load_planned, over_batch, planned, state_after, state_with, table_named, unless_kept, unless_over};
 ghost use Rattle.lk_edition.specs.States.{AreTables};
 
 use crate::call::LoadCall;
@@ -15,6 +18,7 @@ use lk_ledger::{Command, KeptId};
 use lk_load::LoadedBatch;
 use lk_schema::{Users, attribute_of};
 use lk_table::TableVersion;
+use lk_types::Reply;
 use lk_val::{Items, NoMemory, Text};
 use std::alloc::Global;
 use std::sync::Arc;
@@ -99,23 +103,113 @@ fn plan_loaded(
     requires table { IsTable (def_at edition.now.model.schema.tables number) loaded.version }
     ensures { IsUnlessMemory is_no_memory result (unless_over (planned edition.now call.now number loaded.entry)) }
 {
-    let rows = u64::from(loaded.rows());
-    let next = edition.next_number();
-    let tables = tables_with(alloc, edition, number, loaded.version().share(alloc)?)?;
-    let loads = edition.loads_with(alloc, kept_id(alloc, call, next, rows)?)?;
+    let loads = loads_within(alloc, edition, call, number, &loaded)?;
+    Ok(LoadPlan::New(pending_of(alloc, edition, call, number, loaded, loads)?))
+}
+
+// The loads that are kept after a load, unless it leads over a limit.
+fn loads_within(
+    alloc: Global,
+    edition: &Edition,
+    call: &LoadCall,
+    number: usize,
+    loaded: &LoadedBatch<'_>,
+) -> Result<Items<Arc<KeptId>>, LoadFault>
+    requires within { number < length edition.now.model.schema.tables }
+    requires table { IsTable (def_at edition.now.model.schema.tables number) loaded.now.version }
+    ensures loads { IfOk result (λ loads. map arc_value loads ≡ (state_after edition.now.state call.now number loaded.now).ids) }
+    ensures small { IfOk result (λ loads.
+        is_over (state_with edition.now.state number loaded.now.version (map arc_value loads)) ≡ false) }
+    ensures err { IfErr result (λ why. Unless (is_no_memory why)
+        (Err why ≡ unless_over (planned edition.now call.now number loaded.now))) }
+{
+    let load = kept_id(alloc, call, edition.next_number(), u64::from(loaded.rows()))?;
+    let loads = edition.loads_with(alloc, load)?;
     // A small body may come to very many cells: the limits are asked before its text is written or any row is copied.
-    if is_over(next, tables.as_slice(), loads.len()) {
+    if leads_over(alloc, edition, number, loaded.version(), loads.len())? {
         return Err(LoadFault::L6);
     }
-    let command = command_of(alloc, call, next, &loaded)?;
-    let version = compacted(alloc, loaded.into_version())?;
-    let tables = tables_with(alloc, edition, number, version)?;
-    let next_edition = edition.next(alloc, next, tables, loads)?;
-    Ok(LoadPlan::New(Pending {
-        edition: Arc::new(alloc, next_edition)?,
+    Ok(loads)
+}
+
+// Whether the next state is over a limit, with another version of a table and so many kept loads.
+fn leads_over(
+    alloc: Global,
+    edition: &Edition,
+    number: usize,
+    version: &TableVersion,
+    loads: usize,
+) -> Result<bool, NoMemory>
+    requires within { number < length edition.now.model.schema.tables }
+    requires table { IsTable (def_at edition.now.model.schema.tables number) version.now }
+    ensures { IfOk result (λ over. (ids : List KeptId) → length ids ≡ loads
+        → over ≡ is_over (state_with edition.now.state number version.now ids)) }
+{
+    let tables = tables_with(alloc, edition, number, version.share(alloc)?)?;
+    Ok(is_over(edition.next_number(), tables.as_slice(), loads))
+}
+
+// The plan of a load that leads to these kept loads, over no limit.
+fn pending_of(
+    alloc: Global,
+    edition: &Edition,
+    call: &LoadCall,
+    number: usize,
+    loaded: LoadedBatch<'_>,
+    loads: Items<Arc<KeptId>>,
+) -> Result<Pending, NoMemory>
+    requires within { number < length edition.now.model.schema.tables }
+    requires table { IsTable (def_at edition.now.model.schema.tables number) loaded.version }
+    requires loads { map arc_value loads ≡ (state_after edition.now.state call.now number loaded).ids }
+    requires small { is_over (state_with edition.now.state number loaded.version (map arc_value loads)) ≡ false }
+    ensures { IfOk result (λ pending. pending ≡ planned edition.now call.now number loaded.entry) }
+{
+    let next = edition.next_number();
+    let reply = load_reply(alloc, u64::from(loaded.rows()), next);
+    let command = command_of(alloc, call, next, &loaded);
+    let next_edition = edition_with(alloc, edition, number, loaded.into_version(), loads);
+    pending(next_edition, command, reply)
+}
+
+// The plan of these parts, if they were made.
+fn pending(
+    edition: Result<Arc<Edition>, NoMemory>,
+    command: Result<Command, NoMemory>,
+    reply: Result<Reply, NoMemory>,
+) -> Result<Pending, NoMemory>
+    ensures { IfOk result (λ pending. IsOkAnd edition (λ next. IsOkAnd command (λ told. IsOkAnd reply (λ answer.
+        pending ≡ record { standing = arc_value next; command = told; reply = answer })))) }
+{
+    let edition = edition?;
+    let command = command?;
+    Ok(Pending {
+        edition,
         command,
-        reply: load_reply(alloc, rows, next)?,
-    }))
+        reply: reply?,
+    })
+}
+
+// The edition of the next state.
+fn edition_with(
+    alloc: Global,
+    edition: &Edition,
+    number: usize,
+    version: TableVersion,
+    loads: Items<Arc<KeptId>>,
+) -> Result<Arc<Edition>, NoMemory>
+    requires within { number < length edition.now.model.schema.tables }
+    requires table { IsTable (def_at edition.now.model.schema.tables number) version }
+    requires small { is_over (state_with edition.now.state number version (map arc_value loads)) ≡ false }
+    ensures { IfOk result (λ next. arc_value next ≡ record {
+      model = edition.now.model;
+      users = edition.now.users;
+      state = state_with edition.now.state number version (map arc_value loads);
+    }) }
+{
+    let version = compacted(alloc, version)?;
+    let tables = tables_with(alloc, edition, number, version)?;
+    let next = edition.next(alloc, edition.next_number(), tables, loads)?;
+    Ok(Arc::new(alloc, next)?)
 }
 
 // What the store is told of a load that makes the state of this number.

@@ -1,10 +1,10 @@
-ghost use Rattle.std.specs.Prelude.{◌≡◌, ◌<◌, IfErr, IfOk, Some, false, length, map};
+ghost use Rattle.std.specs.Prelude.{◌≡◌, ◌<◌, Err, IfErr, IfOk, Ok, Some, false, length, map};
 ghost use Rattle.std.specs.Arc.{arc_value};
-ghost use Rattle.lk_val.specs.Memory.{IsUnlessMemory};
+ghost use Rattle.lk_val.specs.Memory.{IsUnlessMemory, Unless};
 ghost use Rattle.lk_edition.specs.Limits.{is_over};
 ghost use Rattle.lk_edition.specs.Offices.{AreSeeds};
 ghost use Rattle.lk_edition.specs.Standings.{IsAnswerable};
-ghost use Rattle.lk_edition.specs.Openings.{all_appended, all_seeded, appended, appended_to, empty_tables, is_no_memory, seeded, standing_opened, standing_over, state_over};
+ghost use Rattle.lk_edition.specs.Openings.{all_appended, all_seeded, appended, appended_to, empty_tables, is_no_memory, opened, seeded, standing_opened};
 ghost use Rattle.lk_edition.specs.States.{AreTables};
 ghost use Rattle.lk_edition.specs.declared.fault.OpenFault.TheVariants as fault;
 
@@ -38,41 +38,64 @@ impl Edition {
         ensures number { IfOk result (λ edition. edition.state.number ≡ kept.number) }
         ensures never { IfErr result (λ why. why ≡ fault.Store → ⊥) }
     {
-        let Kept {
-            number,
-            chunks,
-            ids,
-        } = kept;
-        let defs = model.schema.tables.as_slice();
-        let tables = all_appended(alloc, defs, empty_tables(alloc, defs)?, chunks.as_slice())?;
-        let tables = all_seeded(alloc, defs, tables, seeds)?;
-        if is_over(number, tables.as_slice(), ids.len()) {
-            return Err(OpenFault::Full);
-        }
-        let loads = each_shared(alloc, ids)?;
-        Ok(edition_over(alloc, model, users, number, tables, loads)?)
+        let base = Arc::new(alloc, Base { model, users })?;
+        edition_over(alloc, base, kept, seeds)
     }
 }
 
 fn edition_over(
     alloc: Global,
-    model: Model,
-    users: Users,
-    number: u64,
-    tables: Items<TableVersion>,
-    loads: Items<Arc<KeptId>>,
-) -> Result<Edition, NoMemory>
-    requires answerable { IsAnswerable model }
-    requires tables { AreTables model.schema.tables tables }
-    requires small { is_over (record { number = number; tables = tables; ids = map arc_value loads }) ≡ false }
-    ensures { IfOk result (λ edition. edition ≡ record {
-      model = model;
-      users = users;
-      state = record { number = number; tables = tables; ids = map arc_value loads };
-    }) }
+    base: Arc<Base>,
+    kept: Kept,
+    seeds: &[(u32, Bytes)],
+) -> Result<Edition, OpenFault>
+    requires model { IsAnswerable (arc_value base).model }
+    requires seeds { AreSeeds (arc_value base).model.schema.tables seeds.now }
+    ensures value { IsUnlessMemory is_no_memory result
+        (standing_opened (arc_value base).model (arc_value base).users kept seeds.now) }
+    ensures number { IfOk result (λ edition. edition.state.number ≡ kept.number) }
+    ensures never { IfErr result (λ why. why ≡ fault.Store → ⊥) }
 {
-    let base = Arc::new(alloc, Base { model, users })?;
-    Edition::new(alloc, base, number, tables, loads)
+    let tables = tables_over(alloc, base.model.schema.tables.as_slice(), &kept, seeds)?;
+    let number = kept.number;
+    let loads = loads_of(alloc, kept)?;
+    Ok(Edition::new(alloc, base, number, tables, loads)?)
+}
+
+// The tables over what a store kept and the seeds, within the limits.
+fn tables_over(
+    alloc: Global,
+    defs: &[TableDef],
+    kept: &Kept,
+    seeds: &[(u32, Bytes)],
+) -> Result<Items<TableVersion>, OpenFault>
+    requires { AreSeeds defs.now seeds.now }
+    ensures ok { IfOk result (λ tables. opened defs.now kept.now seeds.now
+        ≡ Ok (record { number = kept.now.number; tables = tables; ids = kept.now.ids })) }
+    ensures err { IfErr result (λ why. Unless (is_no_memory why) (Err why ≡ opened defs.now kept.now seeds.now)) }
+    ensures tables { IfOk result (AreTables defs.now) }
+    ensures small { IfOk result (λ tables.
+        is_over (record { number = kept.now.number; tables = tables; ids = kept.now.ids }) ≡ false) }
+    ensures never { IfErr result (λ why. why ≡ fault.Store → ⊥) }
+{
+    let tables = empty_tables(alloc, defs)?;
+    let tables = all_appended(alloc, defs, tables, kept.chunks.as_slice())?;
+    let tables = all_seeded(alloc, defs, tables, seeds)?;
+    if is_over(kept.number, tables.as_slice(), kept.ids.len()) {
+        return Err(OpenFault::Full);
+    }
+    Ok(tables)
+}
+
+fn loads_of(alloc: Global, kept: Kept) -> Result<Items<Arc<KeptId>>, NoMemory>
+    ensures { IfOk result (λ loads. map arc_value loads ≡ kept.ids) }
+{
+    let Kept {
+        number: _,
+        chunks: _,
+        ids,
+    } = kept;
+    each_shared(alloc, ids)
 }
 
 fn each_shared(alloc: Global, ids: Items<KeptId>) -> Result<Items<Arc<KeptId>>, NoMemory>

@@ -1,11 +1,13 @@
-ghost use Rattle.std.specs.Prelude.{◌≡◌, IfOk};
-ghost use Rattle.serde_json.specs.View.{view};
+ghost use Rattle.std.specs.Prelude.{◌≡◌, IfOk, OnOk, codes};
+ghost use Rattle.serde_json.specs.Data.{number, put as with_member, unsigned};
+ghost use Rattle.serde_json.specs.View.{members_view, view};
 ghost use Rattle.lk_edition.specs.Replies.{load_data, load_reply, load_text};
 
+use crate::objects::{object_of, put_number, text_of};
 use lk_types::Reply;
 use lk_val::{Bytes, NoMemory};
-use serde_json::{Value, json};
-use std::alloc::Global;
+use serde_json::{Map, Value};
+use std::alloc::{AllocError, Global};
 
 /// The reply to an accepted load: how many rows its batch has, and the number of the state that it made.
 pub(crate) fn load_reply(alloc: Global, rows: u64, snapshot: u64) -> Result<Reply, NoMemory>
@@ -22,13 +24,27 @@ pub(crate) fn load_reply(alloc: Global, rows: u64, snapshot: u64) -> Result<Repl
 fn load_text(alloc: Global, rows: u64, snapshot: u64) -> Result<Bytes, NoMemory>
     ensures { IfOk result (λ text. text ≡ load_text rows snapshot) }
 {
-    let value = load_value(alloc, rows, snapshot)?;
-    let text = value.to_string(alloc)?;
-    Ok(Bytes::from_slice(alloc, text.as_bytes())?)
+    text_of(alloc, load_value(alloc, rows, snapshot))
 }
 
 fn load_value(alloc: Global, rows: u64, snapshot: u64) -> Result<Value, NoMemory>
     ensures { IfOk result (λ value. view value ≡ load_data rows snapshot) }
 {
-    Ok(json!(in alloc; {"rows": rows, "snapshot": snapshot})?)
+    let mut members = Map::new(alloc);
+    let put = put_load(alloc, &mut members, rows, snapshot);
+    object_of(members, put)
+}
+
+fn put_load(
+    alloc: Global,
+    members: &mut Map<String, Value>,
+    rows: u64,
+    snapshot: u64,
+) -> Result<(), AllocError>
+    ensures { OnOk result (members_view members.new.entries
+        ≡ with_member (codes "snapshot") (number (unsigned snapshot))
+        (with_member (codes "rows") (number (unsigned rows)) (members_view members.old.entries))) }
+{
+    put_number(alloc, members, "rows", rows)?;
+    put_number(alloc, members, "snapshot", snapshot)
 }

@@ -12,7 +12,7 @@ use lk_val::{NoMemory, Value};
 use std::alloc::Global;
 
 /// Why an expression has no kind.
-#[derive(Clone, Copy, Debug, PartialEq, Eq)]
+#[derive(Clone, Copy, PartialEq, Eq)]
 pub enum Clash {
     /// Kinds clash in it. (lookd)
     E3,

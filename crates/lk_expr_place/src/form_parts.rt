@@ -1,4 +1,4 @@
-ghost use Rattle.std.specs.Prelude.{◌≡◌, IfOk};
+ghost use Rattle.std.specs.Prelude.{◌≡◌, IfOk, IsOkAnd};
 ghost use Rattle.lk_expr_place.specs.GrammarForms.{bracketed, chained, terminal_form, listed, mark, one_of, with_minus, word};
 
 use lk_expr_token::{Keyword, Sign, Terminal, terminal_byte};
@@ -33,37 +33,46 @@ pub(crate) fn one_of(alloc: Global, terminals: &[Terminal]) -> Result<Form, NoMe
 {
     match terminals.split_first() {
         None => Ok(Form::nothing()),
-        Some((first, rest)) => Form::either(alloc, terminal_form(*first), one_of(alloc, rest)?),
+        Some((first, rest)) => Form::either(alloc, Ok(terminal_form(*first)), one_of(alloc, rest)),
     }
 }
 
 /// One or more operands, with a token of one of the terminals between each two.
-pub(crate) fn chained(alloc: Global, joints: &[Terminal], operand: Form) -> Result<Form, NoMemory>
-    ensures { IfOk result (λ form. form ≡ chained joints.now operand) }
+pub(crate) fn chained(
+    alloc: Global,
+    joints: &[Terminal],
+    operand: Result<Form, NoMemory>,
+) -> Result<Form, NoMemory>
+    ensures { IfOk result (λ form. IsOkAnd operand (λ one. form ≡ chained joints.now one)) }
 {
-    let link = Form::seq(alloc, one_of(alloc, joints)?, operand.share()?)?;
-    Form::seq(alloc, operand, Form::many(alloc, link)?)
+    let operand = operand?;
+    let link = Form::seq(alloc, one_of(alloc, joints), operand.share());
+    Form::seq(alloc, Ok(operand), Form::many(alloc, link))
 }
 
 /// One or more items with commas between them.
-pub(crate) fn listed(alloc: Global, item: Form) -> Result<Form, NoMemory>
-    ensures { IfOk result (λ form. form ≡ listed item) }
+pub(crate) fn listed(alloc: Global, item: Result<Form, NoMemory>) -> Result<Form, NoMemory>
+    ensures { IfOk result (λ form. IsOkAnd item (λ one. form ≡ listed one)) }
 {
     chained(alloc, &[Terminal::Sign(Sign::Comma)], item)
 }
 
 /// The form in brackets.
-pub(crate) fn bracketed(alloc: Global, inside: Form) -> Result<Form, NoMemory>
-    ensures { IfOk result (λ form. form ≡ bracketed inside) }
+pub(crate) fn bracketed(alloc: Global, inside: Result<Form, NoMemory>) -> Result<Form, NoMemory>
+    ensures { IfOk result (λ form. IsOkAnd inside (λ bare. form ≡ bracketed bare)) }
 {
-    let closed = Form::seq(alloc, inside, mark(Sign::Close))?;
-    Form::seq(alloc, mark(Sign::Open), closed)
+    let closed = Form::seq(alloc, inside, Ok(mark(Sign::Close)));
+    Form::seq(alloc, Ok(mark(Sign::Open)), closed)
 }
 
 /// A minus before what the rule has, or the other form.
-pub(crate) fn with_minus(alloc: Global, rule: usize, other: Form) -> Result<Form, NoMemory>
-    ensures { IfOk result (λ form. form ≡ with_minus rule other) }
+pub(crate) fn with_minus(
+    alloc: Global,
+    rule: usize,
+    other: Result<Form, NoMemory>,
+) -> Result<Form, NoMemory>
+    ensures { IfOk result (λ form. IsOkAnd other (λ plain. form ≡ with_minus rule plain)) }
 {
-    let negated = Form::seq(alloc, mark(Sign::Minus), Form::nested(rule))?;
+    let negated = Form::seq(alloc, Ok(mark(Sign::Minus)), Ok(Form::nested(rule)));
     Form::either(alloc, negated, other)
 }

@@ -9,7 +9,7 @@ use lk_val::NoMemory;
 use std::alloc::Global;
 
 /// The grammar of expressions, or the smaller one of measures of type number.
-#[derive(Clone, Copy, Debug, PartialEq, Eq)]
+#[derive(Clone, Copy, PartialEq, Eq)]
 pub enum Grammar {
     Expressions,
     Measures,

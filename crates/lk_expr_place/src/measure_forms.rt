@@ -21,7 +21,7 @@ pub(crate) fn measure_form(alloc: Global) -> Result<Form, NoMemory>
     ensures { IfOk result (λ form. form ≡ measure_form) }
 {
     let signs = [Terminal::Sign(Sign::Plus), Terminal::Sign(Sign::Minus)];
-    chained(alloc, &signs, measure_term(alloc)?)
+    chained(alloc, &signs, measure_term(alloc))
 }
 
 #[tactic(auto, unfolding(crate::specs::GrammarForms::measure_term))]
@@ -29,14 +29,14 @@ fn measure_term(alloc: Global) -> Result<Form, NoMemory>
     ensures { IfOk result (λ form. form ≡ measure_term) }
 {
     let signs = [Terminal::Sign(Sign::Times), Terminal::Sign(Sign::Over)];
-    chained(alloc, &signs, measure_unary(alloc)?)
+    chained(alloc, &signs, measure_unary(alloc))
 }
 
 #[tactic(auto, unfolding(crate::specs::GrammarForms::measure_unary))]
 fn measure_unary(alloc: Global) -> Result<Form, NoMemory>
     ensures { IfOk result (λ form. form ≡ measure_unary) }
 {
-    with_minus(alloc, 1, measure_atom(alloc)?)
+    with_minus(alloc, 1, measure_atom(alloc))
 }
 
 #[tactic(auto, unfolding(crate::specs::GrammarForms::measure_atom))]
@@ -44,15 +44,19 @@ fn measure_atom(alloc: Global) -> Result<Form, NoMemory>
     ensures { IfOk result (λ form. form ≡ measure_atom) }
 {
     let literals = [Terminal::Number, Terminal::Field, Terminal::FieldOf];
-    let literal = one_of(alloc, &literals)?;
-    let group = bracketed(alloc, Form::nested(0))?;
-    let compound = Form::either(alloc, group, measure_call(alloc)?)?;
+    let literal = one_of(alloc, &literals);
+    let group = bracketed(alloc, Ok(Form::nested(0)));
+    let compound = Form::either(alloc, group, measure_call(alloc));
     Form::either(alloc, literal, compound)
 }
 
 fn measure_call(alloc: Global) -> Result<Form, NoMemory>
     ensures { IfOk result (λ form. form ≡ measure_call) }
 {
-    let arguments = bracketed(alloc, listed(alloc, Form::nested(0))?)?;
-    Form::seq(alloc, terminal_form(Terminal::MeasureFunction), arguments)
+    let arguments = bracketed(alloc, listed(alloc, Ok(Form::nested(0))));
+    Form::seq(
+        alloc,
+        Ok(terminal_form(Terminal::MeasureFunction)),
+        arguments,
+    )
 }

@@ -14,7 +14,7 @@ use lk_val::NoMemory;
 use std::alloc::Global;
 
 /// Why a text is not read as an expression.
-#[derive(Clone, Copy, Debug, PartialEq, Eq)]
+#[derive(Clone, Copy, PartialEq, Eq)]
 pub enum ExprFault {
     /// The text is no expression. The place is the number of bytes before the fault.
     E1(u32),

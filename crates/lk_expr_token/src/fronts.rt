@@ -32,18 +32,18 @@ fn terminal_form(alloc: Global, terminal: Terminal) -> Result<Option<Form>, NoMe
     ensures { IfOk result (λ form. form ≡ terminal_form terminal) }
 {
     let form = match terminal {
-        Terminal::Word(keyword) => Form::letters(alloc, letters_of(keyword))?,
-        Terminal::Sign(sign) => Form::exactly(alloc, sign_text(sign))?,
-        Terminal::MeasureFunction => measure_function(alloc)?,
-        Terminal::Name => bare_name(alloc)?,
-        Terminal::Compare => comparison(alloc)?,
-        Terminal::Number => unsigned_number(alloc)?,
+        Terminal::Word(keyword) => Form::letters(alloc, letters_of(keyword)),
+        Terminal::Sign(sign) => Form::exactly(alloc, sign_text(sign)),
+        Terminal::MeasureFunction => measure_function(alloc),
+        Terminal::Name => bare_name(alloc),
+        Terminal::Compare => comparison(alloc),
+        Terminal::Number => unsigned_number(alloc),
         Terminal::Text => return Ok(None),
-        Terminal::Column => column(alloc)?,
-        Terminal::Field => field(alloc)?,
-        Terminal::FieldOf => field_of(alloc)?,
+        Terminal::Column => column(alloc),
+        Terminal::Field => field(alloc),
+        Terminal::FieldOf => field_of(alloc),
     };
-    Ok(Some(form))
+    Ok(Some(form?))
 }
 
 fn sign_text(sign: Sign) -> &'static [u8]
@@ -65,81 +65,79 @@ fn sign_text(sign: Sign) -> &'static [u8]
 fn measure_function(alloc: Global) -> Result<Form, NoMemory>
     ensures { IfOk result (λ form. form ≡ measure_function) }
 {
-    let coalesce = Form::letters(alloc, b"coalesce")?;
-    Form::either(alloc, coalesce, Form::letters(alloc, b"nullif")?)
+    let coalesce = Form::letters(alloc, b"coalesce");
+    Form::either(alloc, coalesce, Form::letters(alloc, b"nullif"))
 }
 
 // A bare name, which may be a keyword too.
 fn bare_name(alloc: Global) -> Result<Form, NoMemory>
     ensures { IfOk result (λ form. form ≡ bare_name) }
 {
-    let more = Form::many(alloc, name_byte(alloc)?)?;
-    Form::seq(alloc, letter(alloc)?, more)
+    let more = Form::many(alloc, name_byte(alloc));
+    Form::seq(alloc, letter(alloc), more)
 }
 
 fn name(alloc: Global) -> Result<Form, NoMemory>
     ensures { IfOk result (λ form. form ≡ name) }
 {
-    let more = Form::many(alloc, name_byte(alloc)?)?;
-    Form::seq(alloc, name_byte(alloc)?, more)
+    let more = Form::many(alloc, name_byte(alloc));
+    Form::seq(alloc, name_byte(alloc), more)
 }
 
 fn name_byte(alloc: Global) -> Result<Form, NoMemory>
     ensures { IfOk result (λ form. form ≡ name_byte) }
 {
-    Form::either(alloc, letter(alloc)?, Form::range(b'0', b'9'))
+    Form::either(alloc, letter(alloc), Ok(Form::range(b'0', b'9')))
 }
 
 // A letter or an underscore.
 fn letter(alloc: Global) -> Result<Form, NoMemory>
     ensures { IfOk result (λ form. form ≡ letter) }
 {
-    let letters = Form::either(alloc, Form::range(b'a', b'z'), Form::range(b'A', b'Z'))?;
-    Form::either(alloc, letters, Form::byte(b'_'))
+    let letters = Form::either(
+        alloc,
+        Ok(Form::range(b'a', b'z')),
+        Ok(Form::range(b'A', b'Z')),
+    );
+    Form::either(alloc, letters, Ok(Form::byte(b'_')))
 }
 
 // The texts of the comparisons.
 fn comparison(alloc: Global) -> Result<Form, NoMemory>
     ensures { IfOk result (λ form. form ≡ comparison) }
 {
-    let mut forms = Vec::new(alloc);
-    forms.push(Form::exactly(alloc, b"=")?)?;
-    forms.push(Form::exactly(alloc, b"<>")?)?;
-    forms.push(Form::exactly(alloc, b"!=")?)?;
-    forms.push(Form::exactly(alloc, b"<")?)?;
-    forms.push(Form::exactly(alloc, b"<=")?)?;
-    forms.push(Form::exactly(alloc, b">")?)?;
-    forms.push(Form::exactly(alloc, b">=")?)?;
-    Form::choice(alloc, forms)
+    let texts = Form::either(alloc, Form::exactly(alloc, b">="), Ok(Form::nothing()));
+    let texts = Form::either(alloc, Form::exactly(alloc, b">"), texts);
+    let texts = Form::either(alloc, Form::exactly(alloc, b"<="), texts);
+    let texts = Form::either(alloc, Form::exactly(alloc, b"<"), texts);
+    let texts = Form::either(alloc, Form::exactly(alloc, b"!="), texts);
+    let texts = Form::either(alloc, Form::exactly(alloc, b"<>"), texts);
+    Form::either(alloc, Form::exactly(alloc, b"="), texts)
 }
 
 // A column of the view's own table, bare or between quotes of two sorts.
 fn column(alloc: Global) -> Result<Form, NoMemory>
     ensures { IfOk result (λ form. form ≡ column) }
 {
-    let table = Form::exactly(alloc, b"${TABLE}.")?;
-    let quoted_name = Form::either(alloc, quoted(alloc, b'"')?, quoted(alloc, b'`')?)?;
-    Form::seq(
-        alloc,
-        table,
-        Form::either(alloc, name(alloc)?, quoted_name)?,
-    )
+    let table = Form::exactly(alloc, b"${TABLE}.");
+    let quoted_name = Form::either(alloc, quoted(alloc, b'"'), quoted(alloc, b'`'));
+    Form::seq(alloc, table, Form::either(alloc, name(alloc), quoted_name))
 }
 
 // A name between two bytes.
 fn quoted(alloc: Global, quote: u8) -> Result<Form, NoMemory>
     ensures { IfOk result (λ form. form ≡ quoted quote) }
 {
-    let closed = Form::seq(alloc, name(alloc)?, Form::byte(quote))?;
-    Form::seq(alloc, Form::byte(quote), closed)
+    let closed = Form::seq(alloc, name(alloc), Ok(Form::byte(quote)));
+    Form::seq(alloc, Ok(Form::byte(quote)), closed)
 }
 
 // A field of the same view.
 fn field(alloc: Global) -> Result<Form, NoMemory>
     ensures { IfOk result (λ form. form ≡ field) }
 {
-    let opening = Form::exactly(alloc, b"${")?;
-    let closed = Form::seq(alloc, name(alloc)?, Form::byte(b'}'))?;
+    let opening = Form::exactly(alloc, b"${");
+    let closed = Form::seq(alloc, name(alloc), Ok(Form::byte(b'}')));
     Form::seq(alloc, opening, closed)
 }
 
@@ -147,10 +145,10 @@ fn field(alloc: Global) -> Result<Form, NoMemory>
 fn field_of(alloc: Global) -> Result<Form, NoMemory>
     ensures { IfOk result (λ form. form ≡ field_of) }
 {
-    let opening = Form::exactly(alloc, b"${")?;
-    let closed = Form::seq(alloc, name(alloc)?, Form::byte(b'}'))?;
-    let dotted = Form::seq(alloc, Form::byte(b'.'), closed)?;
-    Form::seq(alloc, opening, Form::seq(alloc, name(alloc)?, dotted)?)
+    let opening = Form::exactly(alloc, b"${");
+    let closed = Form::seq(alloc, name(alloc), Ok(Form::byte(b'}')));
+    let dotted = Form::seq(alloc, Ok(Form::byte(b'.')), closed);
+    Form::seq(alloc, opening, Form::seq(alloc, name(alloc), dotted))
 }
 
 // The place of the text in a form in which nothing nests.

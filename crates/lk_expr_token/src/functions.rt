@@ -3,7 +3,7 @@ ghost use Rattle.lk_types.specs.Expressions.{ascii_lower};
 ghost use Rattle.lk_expr_token.specs.Functions.{function_of, is_of_measures, is_word};
 
 /// A function of expressions.
-#[derive(Clone, Copy, Debug, PartialEq, Eq)]
+#[derive(Clone, Copy, PartialEq, Eq)]
 pub enum Function {
     Coalesce,
     NullIf,

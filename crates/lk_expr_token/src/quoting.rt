@@ -6,7 +6,7 @@ ghost use Rattle.lk_expr_token.specs.Quoting.{closed, opened, quoting_after};
 use lk_utf8::{Utf8, is_whole, utf8_after};
 
 // Where the characters of a text stand between its quotes.
-#[derive(Clone, Copy, Debug, PartialEq, Eq)]
+#[derive(Clone, Copy, PartialEq, Eq)]
 pub(crate) enum Quoting {
     // Before the first quote.
     Unopened,

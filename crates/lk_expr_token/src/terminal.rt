@@ -5,7 +5,7 @@ use crate::functions::{function_of, is_of_measures};
 use crate::token::{Keyword, Sign, Token};
 
 /// The terminal of a token is what the grammars of expressions and of measures tell apart in it.
-#[derive(Clone, Copy, Debug, PartialEq, Eq)]
+#[derive(Clone, Copy, PartialEq, Eq)]
 pub enum Terminal {
     Word(Keyword),
     Sign(Sign),

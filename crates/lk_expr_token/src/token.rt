@@ -6,7 +6,7 @@ use lk_val::{Bytes, NoMemory, Text};
 use std::alloc::Global;
 
 /// A word that is no name, in any case.
-#[derive(Clone, Copy, Debug, PartialEq, Eq)]
+#[derive(Clone, Copy, PartialEq, Eq)]
 pub enum Keyword {
     And,
     Or,
@@ -26,7 +26,7 @@ pub enum Keyword {
 }
 
 /// A sign that is no comparison.
-#[derive(Clone, Copy, Debug, PartialEq, Eq)]
+#[derive(Clone, Copy, PartialEq, Eq)]
 pub enum Sign {
     Plus,
     Minus,
@@ -39,7 +39,7 @@ pub enum Sign {
 }
 
 /// A token of an expression.
-#[derive(Debug, Drop)]
+#[derive(Drop)]
 pub enum Token {
     Word(Keyword),
     /// A name that is no keyword, a column's or a function's, and the byte of the text that it begins at.

@@ -3,7 +3,7 @@ use lk_types::Comparison;
 use lk_val::{Bytes, Text};
 
 /// What joins two expressions.
-#[derive(Clone, Copy, Debug, PartialEq, Eq)]
+#[derive(Clone, Copy, PartialEq, Eq)]
 pub enum Joint {
     Or,
     And,

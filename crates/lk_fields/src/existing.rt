@@ -12,7 +12,7 @@ use lk_val::{Items, NoMemory};
 use std::alloc::Global;
 
 /// The declared fields of a scope, and which of them are no fields of it: a text of theirs names what is not there.
-#[derive(Debug, Drop)]
+#[derive(Drop)]
 pub struct FieldSet {
     places: Items<Place>,
     rows: Items<Row>,

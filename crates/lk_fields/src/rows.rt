@@ -10,7 +10,7 @@ use lk_val::{Items, NoMemory};
 use std::alloc::Global;
 
 /// How a field is marked by what it names.
-#[derive(Clone, Copy, Debug, PartialEq, Eq)]
+#[derive(Clone, Copy, PartialEq, Eq)]
 pub enum Rule {
     /// It is lost where some name means no field or a lost one.
     Loses,
@@ -19,7 +19,7 @@ pub enum Rule {
 }
 
 /// What a field names, by the numbers of fields among all of a scope, and whether it lacks one of its names.
-#[derive(Debug, Drop)]
+#[derive(Drop)]
 pub struct Row {
     pub lacks: bool,
     pub names: Items<usize>,

@@ -10,7 +10,7 @@ use lk_val::NoMemory;
 use std::alloc::Global;
 
 /// What a filter is on: texts, numbers, days and moments, or truth values.
-#[derive(Clone, Copy, Debug, PartialEq, Eq)]
+#[derive(Clone, Copy, PartialEq, Eq)]
 pub enum FilterKind {
     /// Texts, by patterns.
     Text,
@@ -23,7 +23,7 @@ pub enum FilterKind {
 }
 
 /// Why a text is not read as a filter.
-#[derive(Clone, Copy, Debug, PartialEq, Eq)]
+#[derive(Clone, Copy, PartialEq, Eq)]
 pub enum FilterFault {
     /// The text is no filter of its kind. The place is the number of bytes before the fault. (F1)
     Syntax(u32),

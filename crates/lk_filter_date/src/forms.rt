@@ -45,9 +45,9 @@ impl MonthDays {
 pub(crate) fn date_form(alloc: Global) -> Result<Form, NoMemory>
     ensures { IfOk result (λ form. form ≡ date_form) }
 {
-    let part = Form::optional(alloc, in_year_form(alloc)?)?;
-    let any_year = Form::seq(alloc, year_form(alloc)?, part)?;
-    let leap_year = Form::seq(alloc, leap_form(alloc)?, leap_day_form(alloc)?)?;
+    let part = Form::optional(alloc, in_year_form(alloc));
+    let any_year = Form::seq(alloc, year_form(alloc), part);
+    let leap_year = Form::seq(alloc, leap_form(alloc), leap_day_form(alloc));
     Form::either(alloc, any_year, leap_year)
 }
 
@@ -55,28 +55,28 @@ pub(crate) fn date_form(alloc: Global) -> Result<Form, NoMemory>
 pub(crate) fn count_form(alloc: Global) -> Result<Form, NoMemory>
     ensures { IfOk result (λ form. form ≡ count_form) }
 {
-    let fourth = Form::optional(alloc, Form::range(b'0', b'9'))?;
-    let third = Form::seq(alloc, Form::range(b'0', b'9'), fourth)?;
-    let third = Form::optional(alloc, third)?;
-    let second = Form::seq(alloc, Form::range(b'0', b'9'), third)?;
-    let second = Form::optional(alloc, second)?;
-    let up_to_four = Form::seq(alloc, Form::range(b'1', b'9'), second)?;
-    Form::either(alloc, up_to_four, Form::exactly(alloc, b"10000")?)
+    let fourth = Form::optional(alloc, Ok(Form::range(b'0', b'9')));
+    let third = Form::seq(alloc, Ok(Form::range(b'0', b'9')), fourth);
+    let third = Form::optional(alloc, third);
+    let second = Form::seq(alloc, Ok(Form::range(b'0', b'9')), third);
+    let second = Form::optional(alloc, second);
+    let up_to_four = Form::seq(alloc, Ok(Form::range(b'1', b'9')), second);
+    Form::either(alloc, up_to_four, Form::exactly(alloc, b"10000"))
 }
 
 fn in_year_form(alloc: Global) -> Result<Form, NoMemory>
     ensures { IfOk result (λ form. form ≡ in_year_form) }
 {
     let days = MonthDays::new(alloc)?;
-    Form::seq(alloc, separator(alloc)?, months_from(alloc, &days, 1, 12)?)
+    Form::seq(alloc, separator(alloc), months_from(alloc, &days, 1, 12))
 }
 
 fn leap_day_form(alloc: Global) -> Result<Form, NoMemory>
     ensures { IfOk result (λ form. form ≡ leap_day_form) }
 {
-    let day = Form::seq(alloc, separator(alloc)?, pair(alloc, 29)?)?;
-    let month = Form::seq(alloc, numeral(alloc, 2)?, day)?;
-    Form::seq(alloc, separator(alloc)?, month)
+    let day = Form::seq(alloc, separator(alloc), pair(alloc, 29));
+    let month = Form::seq(alloc, numeral(alloc, 2), day);
+    Form::seq(alloc, separator(alloc), month)
 }
 
 #[tactic(auto, using(crate::proofs::DateFormLaws::each_none, crate::proofs::DateFormLaws::each_some))]
@@ -88,8 +88,8 @@ fn months_from(alloc: Global, days: &MonthDays, first: u8, count: u8) -> Result<
     if count == 0 {
         return Ok(Form::nothing());
     }
-    let others = months_from(alloc, days, first + 1, count - 1)?;
-    Form::either(alloc, month_form(alloc, days, first)?, others)
+    let others = months_from(alloc, days, first + 1, count - 1);
+    Form::either(alloc, month_form(alloc, days, first), others)
 }
 
 fn month_form(alloc: Global, days: &MonthDays, month: u8) -> Result<Form, NoMemory>
@@ -99,9 +99,9 @@ fn month_form(alloc: Global, days: &MonthDays, month: u8) -> Result<Form, NoMemo
 {
     let day = Form::optional(
         alloc,
-        Form::seq(alloc, separator(alloc)?, days.of(alloc, month)?)?,
-    )?;
-    Form::seq(alloc, numeral(alloc, month)?, day)
+        Form::seq(alloc, separator(alloc), days.of(alloc, month)),
+    );
+    Form::seq(alloc, numeral(alloc, month), day)
 }
 
 #[tactic(auto, using(crate::proofs::DateFormLaws::each_none, crate::proofs::DateFormLaws::each_some))]
@@ -112,8 +112,8 @@ fn numerals_from(alloc: Global, first: u8, count: u8) -> Result<Form, NoMemory>
     if count == 0 {
         return Ok(Form::nothing());
     }
-    let others = numerals_from(alloc, first + 1, count - 1)?;
-    Form::either(alloc, numeral(alloc, first)?, others)
+    let others = numerals_from(alloc, first + 1, count - 1);
+    Form::either(alloc, numeral(alloc, first), others)
 }
 
 /// A number in two digits, or in one where that is enough.
@@ -126,7 +126,7 @@ fn numeral(alloc: Global, number: u8) -> Result<Form, NoMemory>
     } else {
         Form::nothing()
     };
-    Form::either(alloc, pair(alloc, number)?, single)
+    Form::either(alloc, pair(alloc, number), Ok(single))
 }
 
 /// A number in two digits.
@@ -136,30 +136,30 @@ fn pair(alloc: Global, number: u8) -> Result<Form, NoMemory>
 {
     Form::seq(
         alloc,
-        Form::byte(b'0' + number / 10),
-        Form::byte(b'0' + number % 10),
+        Ok(Form::byte(b'0' + number / 10)),
+        Ok(Form::byte(b'0' + number % 10)),
     )
 }
 
 fn separator(alloc: Global) -> Result<Form, NoMemory>
     ensures { IfOk result (λ form. form ≡ separator) }
 {
-    Form::either(alloc, Form::byte(b'-'), Form::byte(b'/'))
+    Form::either(alloc, Ok(Form::byte(b'-')), Ok(Form::byte(b'/')))
 }
 
 fn year_form(alloc: Global) -> Result<Form, NoMemory>
     ensures { IfOk result (λ form. form ≡ year_form) }
 {
-    let late = Form::seq(alloc, some_digits(alloc)?, two_digits(alloc)?)?;
-    let early = Form::seq(alloc, pair(alloc, 0)?, some_digits(alloc)?)?;
+    let late = Form::seq(alloc, some_digits(alloc), two_digits(alloc));
+    let early = Form::seq(alloc, pair(alloc, 0), some_digits(alloc));
     Form::either(alloc, late, early)
 }
 
 fn leap_form(alloc: Global) -> Result<Form, NoMemory>
     ensures { IfOk result (λ form. form ≡ leap_form) }
 {
-    let plain = Form::seq(alloc, two_digits(alloc)?, fourths_from(alloc, 1, 24)?)?;
-    let century = Form::seq(alloc, fourths_from(alloc, 1, 24)?, pair(alloc, 0)?)?;
+    let plain = Form::seq(alloc, two_digits(alloc), fourths_from(alloc, 1, 24));
+    let century = Form::seq(alloc, fourths_from(alloc, 1, 24), pair(alloc, 0));
     Form::either(alloc, plain, century)
 }
 
@@ -171,21 +171,29 @@ fn fourths_from(alloc: Global, first: u8, count: u8) -> Result<Form, NoMemory>
     if count == 0 {
         return Ok(Form::nothing());
     }
-    let others = fourths_from(alloc, first + 1, count - 1)?;
-    Form::either(alloc, pair(alloc, 4 * first)?, others)
+    let others = fourths_from(alloc, first + 1, count - 1);
+    Form::either(alloc, pair(alloc, 4 * first), others)
 }
 
 fn two_digits(alloc: Global) -> Result<Form, NoMemory>
     ensures { IfOk result (λ form. form ≡ two_digits) }
 {
-    Form::seq(alloc, Form::range(b'0', b'9'), Form::range(b'0', b'9'))
+    Form::seq(
+        alloc,
+        Ok(Form::range(b'0', b'9')),
+        Ok(Form::range(b'0', b'9')),
+    )
 }
 
 /// Two digits that are not 00.
 fn some_digits(alloc: Global) -> Result<Form, NoMemory>
     ensures { IfOk result (λ form. form ≡ some_digits) }
 {
-    let from_ten = Form::seq(alloc, Form::range(b'1', b'9'), Form::range(b'0', b'9'))?;
-    let below = Form::seq(alloc, Form::byte(b'0'), Form::range(b'1', b'9'))?;
+    let from_ten = Form::seq(
+        alloc,
+        Ok(Form::range(b'1', b'9')),
+        Ok(Form::range(b'0', b'9')),
+    );
+    let below = Form::seq(alloc, Ok(Form::byte(b'0')), Ok(Form::range(b'1', b'9')));
     Form::either(alloc, from_ten, below)
 }

@@ -4,7 +4,7 @@ use lk_val::Bytes;
 
 /// An item of a filter of dates, its dates and its count as they are written. A count is followed by its unit;
 /// `Null` is true with `NOT` before it.
-#[derive(Debug, Drop)]
+#[derive(Drop)]
 pub(crate) enum DateItem {
     In(Bytes),
     Before(Bytes),

@@ -4,7 +4,7 @@ ghost use Rattle.lk_filter_date.specs.DateTexts.{is_of_date, date_count, date_le
 use lk_grammar::Literals;
 
 /// Dates and counts: a digit, and any number of digits, `-` and `/` behind it.
-#[derive(Clone, Copy, Debug)]
+#[derive(Clone, Copy)]
 pub(crate) struct DateLiterals;
 
 impl Literals for DateLiterals {

@@ -32,8 +32,8 @@ fn dates_form(alloc: Global) -> Result<Form, NoMemory>
 {
     let date = written_date(alloc)?;
     let item = item_form(alloc, &date)?;
-    let further = Form::seq(alloc, Form::word(alloc, b" ", b",")?, item.share()?)?;
-    listed(alloc, b" ", item, further)
+    let further = Form::seq(alloc, Form::word(alloc, b" ", b","), item.share());
+    listed(alloc, b" ", Ok(item), further)
 }
 
 fn item_form(alloc: Global, date: &Form) -> Result<Form, NoMemory>
@@ -42,30 +42,30 @@ fn item_form(alloc: Global, date: &Form) -> Result<Form, NoMemory>
 {
     let others = Form::either(
         alloc,
-        Form::word(alloc, b" ", b"yesterday")?,
-        null_form(alloc)?,
-    )?;
-    let others = Form::either(alloc, Form::word(alloc, b" ", b"today")?, others)?;
-    let others = Form::either(alloc, current_form(alloc)?, others)?;
-    let others = Form::either(alloc, beside_form(alloc, date)?, others)?;
-    let others = Form::either(alloc, counted_form(alloc)?, others)?;
-    Form::either(alloc, dated_form(alloc, date)?, others)
+        Form::word(alloc, b" ", b"yesterday"),
+        null_form(alloc),
+    );
+    let others = Form::either(alloc, Form::word(alloc, b" ", b"today"), others);
+    let others = Form::either(alloc, current_form(alloc), others);
+    let others = Form::either(alloc, beside_form(alloc, date), others);
+    let others = Form::either(alloc, counted_form(alloc), others);
+    Form::either(alloc, dated_form(alloc, date), others)
 }
 
 fn dated_form(alloc: Global, date: &Form) -> Result<Form, NoMemory>
     requires { date.now ≡ written_date }
     ensures { IfOk result (λ form. form ≡ dated_form) }
 {
-    let to = Form::seq(alloc, Form::word(alloc, b" ", b"to")?, date.share()?)?;
-    Form::seq(alloc, date.share()?, Form::optional(alloc, to)?)
+    let to = Form::seq(alloc, Form::word(alloc, b" ", b"to"), date.share());
+    Form::seq(alloc, date.share(), Form::optional(alloc, to))
 }
 
 fn counted_form(alloc: Global) -> Result<Form, NoMemory>
     ensures { IfOk result (λ form. form ≡ counted_form) }
 {
-    let ago = Form::optional(alloc, Form::word(alloc, b" ", b"ago")?)?;
-    let unit = Form::seq(alloc, units_form(alloc)?, ago)?;
-    Form::seq(alloc, written_count(alloc)?, unit)
+    let ago = Form::optional(alloc, Form::word(alloc, b" ", b"ago"));
+    let unit = Form::seq(alloc, units_form(alloc), ago);
+    Form::seq(alloc, written_count(alloc), unit)
 }
 
 fn beside_form(alloc: Global, date: &Form) -> Result<Form, NoMemory>
@@ -74,10 +74,10 @@ fn beside_form(alloc: Global, date: &Form) -> Result<Form, NoMemory>
 {
     let side = Form::either(
         alloc,
-        Form::word(alloc, b" ", b"before")?,
-        Form::word(alloc, b" ", b"after")?,
-    )?;
-    Form::seq(alloc, side, date.share()?)
+        Form::word(alloc, b" ", b"before"),
+        Form::word(alloc, b" ", b"after"),
+    );
+    Form::seq(alloc, side, date.share())
 }
 
 fn current_form(alloc: Global) -> Result<Form, NoMemory>
@@ -85,17 +85,17 @@ fn current_form(alloc: Global) -> Result<Form, NoMemory>
 {
     let which = Form::either(
         alloc,
-        Form::word(alloc, b" ", b"this")?,
-        Form::word(alloc, b" ", b"last")?,
-    )?;
-    Form::seq(alloc, which, period_form(alloc)?)
+        Form::word(alloc, b" ", b"this"),
+        Form::word(alloc, b" ", b"last"),
+    );
+    Form::seq(alloc, which, period_form(alloc))
 }
 
 fn null_form(alloc: Global) -> Result<Form, NoMemory>
     ensures { IfOk result (λ form. form ≡ null_form) }
 {
-    let not = Form::optional(alloc, Form::word(alloc, b" ", b"not")?)?;
-    Form::seq(alloc, not, Form::word(alloc, b" ", b"null")?)
+    let not = Form::optional(alloc, Form::word(alloc, b" ", b"not"));
+    Form::seq(alloc, not, Form::word(alloc, b" ", b"null"))
 }
 
 fn period_form(alloc: Global) -> Result<Form, NoMemory>
@@ -103,11 +103,11 @@ fn period_form(alloc: Global) -> Result<Form, NoMemory>
 {
     let others = Form::either(
         alloc,
-        Form::word(alloc, b" ", b"quarter")?,
-        Form::word(alloc, b" ", b"year")?,
-    )?;
-    let others = Form::either(alloc, Form::word(alloc, b" ", b"month")?, others)?;
-    Form::either(alloc, Form::word(alloc, b" ", b"week")?, others)
+        Form::word(alloc, b" ", b"quarter"),
+        Form::word(alloc, b" ", b"year"),
+    );
+    let others = Form::either(alloc, Form::word(alloc, b" ", b"month"), others);
+    Form::either(alloc, Form::word(alloc, b" ", b"week"), others)
 }
 
 fn units_form(alloc: Global) -> Result<Form, NoMemory>
@@ -115,33 +115,33 @@ fn units_form(alloc: Global) -> Result<Form, NoMemory>
 {
     let others = Form::either(
         alloc,
-        unit_form(alloc, Period::Quarter)?,
-        unit_form(alloc, Period::Year)?,
-    )?;
-    let others = Form::either(alloc, unit_form(alloc, Period::Month)?, others)?;
-    let others = Form::either(alloc, unit_form(alloc, Period::Week)?, others)?;
-    Form::either(alloc, unit_form(alloc, Period::Day)?, others)
+        unit_form(alloc, Period::Quarter),
+        unit_form(alloc, Period::Year),
+    );
+    let others = Form::either(alloc, unit_form(alloc, Period::Month), others);
+    let others = Form::either(alloc, unit_form(alloc, Period::Week), others);
+    Form::either(alloc, unit_form(alloc, Period::Day), others)
 }
 
 fn unit_form(alloc: Global, period: Period) -> Result<Form, NoMemory>
     ensures { IfOk result (λ form. form ≡ unit_form period) }
 {
-    let plural = Form::word(alloc, b" ", unit_letters(period, Plurality::Plural))?;
+    let plural = Form::word(alloc, b" ", unit_letters(period, Plurality::Plural));
     Form::either(
         alloc,
         plural,
-        Form::word(alloc, b" ", unit_letters(period, Plurality::Singular))?,
+        Form::word(alloc, b" ", unit_letters(period, Plurality::Singular)),
     )
 }
 
 fn written_date(alloc: Global) -> Result<Form, NoMemory>
     ensures { IfOk result (λ form. form ≡ written_date) }
 {
-    Form::free(alloc, b" ", date_form(alloc)?)
+    Form::free(alloc, b" ", date_form(alloc))
 }
 
 fn written_count(alloc: Global) -> Result<Form, NoMemory>
     ensures { IfOk result (λ form. form ≡ written_count) }
 {
-    Form::free(alloc, b" ", count_form(alloc)?)
+    Form::free(alloc, b" ", count_form(alloc))
 }

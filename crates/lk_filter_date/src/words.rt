@@ -5,14 +5,14 @@ use lk_grammar::Word;
 use lk_types::Period;
 
 /// Whether a unit is written in the plural.
-#[derive(Clone, Copy, Debug)]
+#[derive(Clone, Copy)]
 pub(crate) enum Plurality {
     Plural,
     Singular,
 }
 
 /// The words of filters of dates.
-#[derive(Clone, Copy, Debug)]
+#[derive(Clone, Copy)]
 pub(crate) enum DateWord {
     Before,
     After,

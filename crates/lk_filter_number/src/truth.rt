@@ -11,7 +11,7 @@ use lk_val::{Items, NoMemory};
 use std::alloc::Global;
 
 /// The words of filters of truth values.
-#[derive(Clone, Copy, Debug)]
+#[derive(Clone, Copy)]
 pub(crate) enum TruthWord {
     Yes,
     No,
@@ -95,8 +95,8 @@ fn judge_truth_form(alloc: Global, text: &[u8]) -> Result<Option<usize>, NoMemor
 fn truth_form(alloc: Global) -> Result<Form, NoMemory>
     ensures { IfOk result (λ form. form ≡ truth_form) }
 {
-    let item = value_form(alloc)?;
-    let further = Form::seq(alloc, Form::word(alloc, b" ", b",")?, value_form(alloc)?)?;
+    let item = value_form(alloc);
+    let further = Form::seq(alloc, Form::word(alloc, b" ", b","), value_form(alloc));
     listed(alloc, b" ", item, further)
 }
 
@@ -105,7 +105,7 @@ fn value_form(alloc: Global) -> Result<Form, NoMemory>
 {
     Form::either(
         alloc,
-        Form::word(alloc, b" ", b"yes")?,
-        Form::word(alloc, b" ", b"no")?,
+        Form::word(alloc, b" ", b"yes"),
+        Form::word(alloc, b" ", b"no"),
     )
 }

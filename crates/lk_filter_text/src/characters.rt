@@ -4,7 +4,7 @@ ghost use Rattle.lk_filter_text.specs.Characters.{character_length, is_in, is_pl
 use lk_grammar::Literals;
 
 /// The characters of UTF-8 that stand for themselves: all but a comma, `%` and `^`.
-#[derive(Clone, Copy, Debug)]
+#[derive(Clone, Copy)]
 pub(crate) struct Characters;
 
 impl Literals for Characters {

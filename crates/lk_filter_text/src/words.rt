@@ -1,7 +1,7 @@
 use lk_grammar::{Token, Word};
 
 /// The marks of filters of texts: a comma, `%`, and `^` with each character that it quotes.
-#[derive(Clone, Copy, Debug)]
+#[derive(Clone, Copy)]
 pub(crate) enum TextWord {
     Comma,
     Any,

@@ -10,13 +10,13 @@ use lk_types::{Kind, Schema, TableDef};
 use lk_val::Items;
 
 /// The kinds of the columns of each part of a scope, by number; none where a kind can't be told.
-#[derive(Debug, Drop)]
+#[derive(Drop)]
 pub struct ColumnKinds {
     pub parts: Items<Items<Option<Kind>>>,
 }
 
 /// What a column of unknown kind is in an expression.
-#[derive(Clone, Copy, Debug, PartialEq, Eq)]
+#[derive(Clone, Copy, PartialEq, Eq)]
 pub enum UnknownColumn {
     /// It is null, which has every kind and so gives no fault.
     Null,

@@ -10,7 +10,7 @@ use lk_val::{Items, NoMemory};
 use std::alloc::Global;
 
 // What a reference stands for, with its names looked up.
-#[derive(Clone, Copy, Debug, PartialEq, Eq)]
+#[derive(Clone, Copy, PartialEq, Eq)]
 pub(crate) enum Referent {
     // It names nothing that is there.
     Nothing,

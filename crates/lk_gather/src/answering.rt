@@ -25,7 +25,7 @@ use lk_val::{Items, NoMemory};
 use std::alloc::Global;
 
 /// An answer, and how many visible rows it went over.
-#[derive(Debug, Drop)]
+#[derive(Drop)]
 pub struct Counted {
     pub answer: Answer,
     pub rows: u64,

@@ -1,4 +1,4 @@
-ghost use Rattle.std.specs.Prelude.{◌≡◌, IfOk, length};
+ghost use Rattle.std.specs.Prelude.{◌≡◌, IfOk, IsOkAnd, length};
 ghost use Rattle.lk_grammar.specs.Words.{exactly, char, letters, any_of, spaces, free, word};
 ghost use Rattle.lk_grammar.specs.Forms.{nothing, empty, byte, seq, either, many, nested, optional, choice, sequence, may_end, is_live, is_same_form};
 ghost use Rattle.lk_grammar.specs.Steps.{may_begin};
@@ -10,7 +10,8 @@ use std::marker::Model;
 use std::rc::Rc;
 use std::vec::IntoIter;
 
-/// A grammar as a value, which clauses see as a form. A form that stands in several places is kept once.
+/// A grammar as a value, which clauses see as a form. A form that stands in several places is kept once. What makes a form
+/// of others takes them as they were made: where one of them wanted memory, so does the whole.
 #[cycle(form)]
 #[derive(Drop)]
 pub struct Form {
@@ -93,42 +94,52 @@ impl Form {
     }
 
     /// A text of the first form, and behind it one of the second.
-    pub fn seq(alloc: Global, first: Form, second: Form) -> Result<Form, NoMemory>
-        ensures { IfOk result (λ form. form ≡ seq first second) }
+    pub fn seq(
+        alloc: Global,
+        first: Result<Form, NoMemory>,
+        second: Result<Form, NoMemory>,
+    ) -> Result<Form, NoMemory>
+        ensures { IfOk result (λ form.
+            IsOkAnd first (λ front. IsOkAnd second (λ back. form ≡ seq front back))) }
     {
-        let first = Rc::new(alloc, first)?;
-        let second = Rc::new(alloc, second)?;
+        let first = Rc::new(alloc, first?)?;
+        let second = Rc::new(alloc, second?)?;
         Ok(Form {
             shape: Shape::Seq(first, second),
         })
     }
 
     /// A text of one form or of the other.
-    pub fn either(alloc: Global, one: Form, other: Form) -> Result<Form, NoMemory>
-        ensures { IfOk result (λ form. form ≡ either one other) }
+    pub fn either(
+        alloc: Global,
+        one: Result<Form, NoMemory>,
+        other: Result<Form, NoMemory>,
+    ) -> Result<Form, NoMemory>
+        ensures { IfOk result (λ form.
+            IsOkAnd one (λ this. IsOkAnd other (λ that. form ≡ either this that))) }
     {
-        let one = Rc::new(alloc, one)?;
-        let other = Rc::new(alloc, other)?;
+        let one = Rc::new(alloc, one?)?;
+        let other = Rc::new(alloc, other?)?;
         Ok(Form {
             shape: Shape::Either(one, other),
         })
     }
 
     /// Any number of texts of the form, one behind the other.
-    pub fn many(alloc: Global, form: Form) -> Result<Form, NoMemory>
-        ensures { IfOk result (λ repeated. repeated ≡ many form) }
+    pub fn many(alloc: Global, form: Result<Form, NoMemory>) -> Result<Form, NoMemory>
+        ensures { IfOk result (λ repeated. IsOkAnd form (λ once. repeated ≡ many once)) }
     {
-        let form = Rc::new(alloc, form)?;
+        let form = Rc::new(alloc, form?)?;
         Ok(Form {
             shape: Shape::Many(form),
         })
     }
 
     /// A text of the form, or the empty one.
-    pub fn optional(alloc: Global, form: Form) -> Result<Form, NoMemory>
-        ensures { IfOk result (λ either. either ≡ optional form) }
+    pub fn optional(alloc: Global, form: Result<Form, NoMemory>) -> Result<Form, NoMemory>
+        ensures { IfOk result (λ either. IsOkAnd form (λ once. either ≡ optional once)) }
     {
-        Form::either(alloc, form, Form::empty())
+        Form::either(alloc, form, Ok(Form::empty()))
     }
 
     /// A text of one of the forms.
@@ -151,11 +162,9 @@ impl Form {
     {
         match bytes.split_first() {
             None => Ok(Form::empty()),
-            Some((first, rest)) => Form::seq(
-                alloc,
-                Form::byte(*first),
-                Form::exactly(alloc, rest)?,
-            ),
+            Some((first, rest)) => {
+                Form::seq(alloc, Ok(Form::byte(*first)), Form::exactly(alloc, rest))
+            }
         }
     }
 
@@ -164,7 +173,7 @@ impl Form {
         ensures { IfOk result (λ form. form ≡ char small) }
     {
         if small.is_ascii_lowercase() {
-            Form::either(alloc, Form::byte(small), Form::byte(small - 32))
+            Form::either(alloc, Ok(Form::byte(small)), Ok(Form::byte(small - 32)))
         } else {
             Ok(Form::byte(small))
         }
@@ -176,11 +185,9 @@ impl Form {
     {
         match small.split_first() {
             None => Ok(Form::empty()),
-            Some((first, rest)) => Form::seq(
-                alloc,
-                Form::char(alloc, *first)?,
-                Form::letters(alloc, rest)?,
-            ),
+            Some((first, rest)) => {
+                Form::seq(alloc, Form::char(alloc, *first), Form::letters(alloc, rest))
+            }
         }
     }
 
@@ -190,11 +197,9 @@ impl Form {
     {
         match bytes.split_first() {
             None => Ok(Form::nothing()),
-            Some((first, rest)) => Form::either(
-                alloc,
-                Form::byte(*first),
-                Form::any_of(alloc, rest)?,
-            ),
+            Some((first, rest)) => {
+                Form::either(alloc, Ok(Form::byte(*first)), Form::any_of(alloc, rest))
+            }
         }
     }
 
@@ -202,21 +207,21 @@ impl Form {
     pub fn spaces(alloc: Global, white: &[u8]) -> Result<Form, NoMemory>
         ensures { IfOk result (λ form. form ≡ spaces white.now) }
     {
-        Form::many(alloc, Form::any_of(alloc, white)?)
+        Form::many(alloc, Form::any_of(alloc, white))
     }
 
     /// The form with free spaces before it.
-    pub fn free(alloc: Global, white: &[u8], form: Form) -> Result<Form, NoMemory>
-        ensures { IfOk result (λ made. made ≡ free white.now form) }
+    pub fn free(alloc: Global, white: &[u8], form: Result<Form, NoMemory>) -> Result<Form, NoMemory>
+        ensures { IfOk result (λ made. IsOkAnd form (λ bare. made ≡ free white.now bare)) }
     {
-        Form::seq(alloc, Form::spaces(alloc, white)?, form)
+        Form::seq(alloc, Form::spaces(alloc, white), form)
     }
 
     /// A word: letters in any case, given as small ones, with free spaces before them.
     pub fn word(alloc: Global, white: &[u8], small: &[u8]) -> Result<Form, NoMemory>
         ensures { IfOk result (λ form. form ≡ word white.now small.now) }
     {
-        Form::free(alloc, white, Form::letters(alloc, small)?)
+        Form::free(alloc, white, Form::letters(alloc, small))
     }
 
     /// The same form, whose parts are shared and not copied.
@@ -300,10 +305,7 @@ fn choice_of(alloc: Global, forms: &mut IntoIter<Form>) -> Result<Form, NoMemory
 {
     match forms.next() {
         None => Ok(Form::nothing()),
-        Some(form) => {
-            let others = choice_of(alloc, forms)?;
-            Form::either(alloc, form, others)
-        }
+        Some(form) => Form::either(alloc, Ok(form), choice_of(alloc, forms)),
     }
 }
 
@@ -312,9 +314,6 @@ fn sequence_of(alloc: Global, forms: &mut IntoIter<Form>) -> Result<Form, NoMemo
 {
     match forms.next() {
         None => Ok(Form::empty()),
-        Some(form) => {
-            let rest = sequence_of(alloc, forms)?;
-            Form::seq(alloc, form, rest)
-        }
+        Some(form) => Form::seq(alloc, Ok(form), sequence_of(alloc, forms)),
     }
 }

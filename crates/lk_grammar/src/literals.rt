@@ -10,7 +10,7 @@ use lk_val::{Bytes, Items, NoMemory};
 use std::alloc::Global;
 
 /// A word of a table, or a literal as it is written.
-#[derive(Debug, Drop)]
+#[derive(Drop)]
 pub enum Token<W> {
     /// A word of the table.
     Word(W),

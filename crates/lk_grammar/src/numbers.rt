@@ -8,7 +8,7 @@ use lk_val::NoMemory;
 use std::alloc::Global;
 
 /// Numbers with or without a `-`: digits, and behind a dot digits again.
-#[derive(Clone, Copy, Debug)]
+#[derive(Clone, Copy)]
 pub struct Numbers;
 
 impl Literals for Numbers {
@@ -22,7 +22,7 @@ impl Literals for Numbers {
 }
 
 /// Numbers without a sign.
-#[derive(Clone, Copy, Debug)]
+#[derive(Clone, Copy)]
 pub struct UnsignedNumbers;
 
 impl Literals for UnsignedNumbers {
@@ -39,24 +39,24 @@ impl Literals for UnsignedNumbers {
 pub fn number(alloc: Global) -> Result<Form, NoMemory>
     ensures { IfOk result (λ form. form ≡ number) }
 {
-    let sign = Form::optional(alloc, Form::byte(b'-'))?;
-    Form::seq(alloc, sign, unsigned_number(alloc)?)
+    let sign = Form::optional(alloc, Ok(Form::byte(b'-')));
+    Form::seq(alloc, sign, unsigned_number(alloc))
 }
 
 /// The form of numbers without a sign.
 pub fn unsigned_number(alloc: Global) -> Result<Form, NoMemory>
     ensures { IfOk result (λ form. form ≡ unsigned_number) }
 {
-    let places = Form::seq(alloc, Form::byte(b'.'), digits(alloc)?)?;
-    Form::seq(alloc, digits(alloc)?, Form::optional(alloc, places)?)
+    let places = Form::seq(alloc, Ok(Form::byte(b'.')), digits(alloc));
+    Form::seq(alloc, digits(alloc), Form::optional(alloc, places))
 }
 
 /// One digit or more.
 fn digits(alloc: Global) -> Result<Form, NoMemory>
     ensures { IfOk result (λ form. form ≡ digits) }
 {
-    let more = Form::many(alloc, Form::range(b'0', b'9'))?;
-    Form::seq(alloc, Form::range(b'0', b'9'), more)
+    let more = Form::many(alloc, Ok(Form::range(b'0', b'9')));
+    Form::seq(alloc, Ok(Form::range(b'0', b'9')), more)
 }
 
 /// The longest number in front of a text is found, with or without a sign, where no space is a digit or a `-`.

@@ -13,7 +13,7 @@ use httparse::spans::{EMPTY_HEADER_SPAN, parse_request};
 use httparse::{Error, Status, is_method_token, is_uri_token};
 
 // What the bytes of a head are so far.
-#[derive(Clone, Copy, Debug, PartialEq, Eq)]
+#[derive(Clone, Copy, PartialEq, Eq)]
 pub(crate) enum Seen {
     /// More bytes are wanted.
     Open,

@@ -5,7 +5,7 @@ ghost use Rattle.lk_http.specs.declared.place.Place.{Place};
 use httparse::{is_header_value_token, is_method_token, is_uri_token};
 
 // Where in a head its last byte stands, as far as that was followed.
-#[derive(Clone, Copy, Debug, PartialEq, Eq)]
+#[derive(Clone, Copy, PartialEq, Eq)]
 pub(crate) enum Place {
     /// Among the empty lines before the request line.
     Blank,

@@ -1,7 +1,7 @@
 use lk_val::{Bytes, Text};
 
 /// What a request asks for.
-#[derive(Debug, Drop)]
+#[derive(Drop)]
 pub enum Target {
     /// A query on the explore of this name.
     Query(Text),
@@ -12,7 +12,7 @@ pub enum Target {
 }
 
 /// A request with a route of the server.
-#[derive(Debug, Drop)]
+#[derive(Drop)]
 pub struct Request {
     /// The caller's name; empty unless the head has exactly one `X-User`, which is UTF-8.
     pub user: Text,
@@ -23,7 +23,7 @@ pub struct Request {
 }
 
 /// What a connection gives next.
-#[derive(Debug, Drop)]
+#[derive(Drop)]
 pub enum Got {
     /// The input ended before a further request began.
     End,

@@ -6,7 +6,7 @@ use matchit::{InsertError, Router};
 use std::alloc::Global;
 
 /// A route of the server: which of its calls a path is for.
-#[derive(Clone, Copy, Debug, PartialEq, Eq)]
+#[derive(Clone, Copy, PartialEq, Eq)]
 pub enum Route {
     Check,
     Query,

@@ -12,7 +12,7 @@ use lk_val::{FaultLine, Items, NoMemory, Text};
 use std::alloc::Global;
 
 /// A pattern of an `include`, with the place of the parameter; none where the value is no pattern.
-#[derive(Debug, Drop)]
+#[derive(Drop)]
 pub struct Include {
     pub place: u32,
     pub pattern: Option<Text>,

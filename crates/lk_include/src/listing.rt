@@ -14,7 +14,7 @@ use lk_val::{Bytes, Items, NoMemory, Text, is_among};
 use std::alloc::Global;
 
 /// The paths of a folder, and those of them that are LookML files.
-#[derive(Debug, Drop)]
+#[derive(Drop)]
 pub struct Listing {
     pub paths: Items<Text>,
     pub lookml: Items<Text>,

@@ -9,7 +9,7 @@ use lk_val::{Bytes, Items, NoMemory, Text};
 use std::alloc::Global;
 
 /// A pattern: the names of the folder in which it begins, and its own.
-#[derive(Debug, Drop)]
+#[derive(Drop)]
 pub struct Pattern {
     pub folder: Items<Bytes>,
     pub names: Items<Bytes>,

@@ -7,7 +7,7 @@ use lk_val::{Bytes, FaultLine, Items, NoMemory, Text};
 
 /// The files of a project, as they are read: the bytes of `schema.csv` and `users.csv`, and the LookML files in order of
 /// reading, each with its path.
-#[derive(Debug, Drop)]
+#[derive(Drop)]
 pub struct Project {
     pub schema: Bytes,
     pub users: Bytes,
@@ -15,7 +15,7 @@ pub struct Project {
 }
 
 /// Why a project was not gathered.
-#[derive(Debug, Drop)]
+#[derive(Drop)]
 pub enum ProjectFault {
     /// The first fault of its files.
     Model(FaultLine),

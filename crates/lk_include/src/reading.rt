@@ -20,14 +20,14 @@ use std::alloc::Global;
 use std::collections::VecDeque;
 
 /// What is to be done: to read a file, or to reach the files of an include in a file.
-#[derive(Debug, Drop)]
+#[derive(Drop)]
 pub enum Task {
     Read(Text),
     Reach(Text, Option<Text>),
 }
 
 /// How far reading has come: the trees so far, the LookML files that no include has reached, and what is to be done.
-#[derive(Debug, Drop)]
+#[derive(Drop)]
 pub struct Reading {
     pub trees: Items<(Text, Tree)>,
     pub left: Items<Text>,

@@ -6,7 +6,7 @@ use lk_val::Items;
 
 /// The calls of an object in memory: those that are to fail, by their numbers from 0, and how many were
 /// made and failed.
-#[derive(Debug, Drop)]
+#[derive(Drop)]
 pub struct Calls {
     pub failing: Items<u64>,
     pub made: u64,

@@ -10,7 +10,7 @@ use lk_val::{Bytes, Items, Text};
 use std::alloc::Global;
 
 /// A file of a folder: its path relative to the folder, with `/` between names, and its bytes.
-#[derive(Debug, Drop)]
+#[derive(Drop)]
 pub struct File {
     pub path: Text,
     pub body: Bytes,

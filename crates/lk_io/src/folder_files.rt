@@ -95,14 +95,28 @@ impl Walk {
     ) -> io::Result<()> {
         let place = joined(rt.alloc(), root, folder.as_str())?;
         for entry in fs::read_dir(rt, place.as_str())? {
-            let entry = entry?;
-            let path = joined(rt.alloc(), folder.as_str(), entry.file_name())?;
-            let kind = entry.file_type()?;
-            if kind.is_dir() {
-                self.folders.push(path)?;
-            } else if kind.is_file() {
-                self.files.push(path)?;
-            }
+            self.note(rt.alloc(), folder, entry)?;
+        }
+        Ok(())
+    }
+
+    fn note<R: rt::Files + Drop>(
+        &mut self,
+        alloc: Global,
+        folder: &Text,
+        entry: io::Result<fs::DirEntry<R>>,
+    ) -> io::Result<()> {
+        let entry = entry?;
+        let path = joined(alloc, folder.as_str(), entry.file_name())?;
+        self.add(path, entry.file_type())
+    }
+
+    fn add(&mut self, path: Text, kind: io::Result<fs::FileType>) -> io::Result<()> {
+        let kind = kind?;
+        if kind.is_dir() {
+            self.folders.push(path)?;
+        } else if kind.is_file() {
+            self.files.push(path)?;
         }
         Ok(())
     }

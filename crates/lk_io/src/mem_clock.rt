@@ -8,7 +8,7 @@ use std::alloc::Global;
 use std::marker::Model;
 
 /// A clock over a list of moments, of which the last one repeats.
-#[derive(Debug, Drop)]
+#[derive(Drop)]
 pub struct MemClock {
     moments: Vec<i64>,
     // Which of them comes next.

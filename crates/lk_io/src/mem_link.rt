@@ -16,7 +16,7 @@ use lk_val::{Bytes, Items, NoMemory};
 use std::alloc::Global;
 
 /// A connection in memory: bytes to pull, and those that were put, of which chosen calls fail.
-#[derive(Debug, Drop)]
+#[derive(Drop)]
 pub struct MemLink {
     source: MemSource,
     sink: MemSink,

@@ -11,7 +11,7 @@ use std::io::Read;
 use std::marker::Model;
 
 /// Bytes in memory to pull, of which chosen calls fail.
-#[derive(Debug, Drop)]
+#[derive(Drop)]
 pub struct MemSource {
     bytes: Bytes,
     // How many bytes were taken.

@@ -11,7 +11,7 @@ use crate::sink::Sink;
 use crate::source::Source;
 
 /// A source and a sink as a link.
-#[derive(Debug, Drop)]
+#[derive(Drop)]
 pub struct Pair<I, O> {
     source: I,
     sink: O,

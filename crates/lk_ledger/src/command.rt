@@ -7,7 +7,7 @@ use std::alloc::Global;
 
 /// An accepted load to be saved: the number of the snapshot that it makes, its id, its table, whether its
 /// batch takes the place of the table's rows, how many rows the batch has, and its canonical text in CSV. (lookd)
-#[derive(Debug, Drop)]
+#[derive(Drop)]
 pub struct Command {
     pub number: u64,
     pub id: Text,

@@ -3,7 +3,7 @@ use std::alloc::Global;
 
 /// What a store hands over at opening: the number of the last save, 0 before any, and of the loads their
 /// batches and ids in order of their saves. (lookd)
-#[derive(Debug, Drop)]
+#[derive(Drop)]
 pub struct Kept {
     pub number: u64,
     pub chunks: Items<Chunk>,
@@ -11,14 +11,14 @@ pub struct Kept {
 }
 
 /// A saved batch: the table's name, and the batch's canonical text in CSV.
-#[derive(Debug, Drop)]
+#[derive(Drop)]
 pub struct Chunk {
     pub table: Text,
     pub body: Bytes,
 }
 
 /// The id of an accepted load, with what its reply says: the snapshot's number and how many rows were loaded.
-#[derive(Debug, Drop)]
+#[derive(Drop)]
 pub struct KeptId {
     pub id: Text,
     pub number: u64,

@@ -14,7 +14,7 @@ use std::alloc::Global;
 use std::marker::Model;
 
 /// A store of loads in memory, of which chosen calls fail.
-#[derive(Debug, Drop)]
+#[derive(Drop)]
 pub struct MemKeeper {
     number: u64,
     chunks: Vec<Chunk>,

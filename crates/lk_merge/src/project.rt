@@ -2,7 +2,7 @@ use lk_read::Tree;
 use lk_val::{FaultLine, Items, Text};
 
 /// An effective object: all that it has after merging, and the file of its declaration.
-#[derive(Debug, Drop)]
+#[derive(Drop)]
 pub struct Object {
     pub name: Text,
     pub tree: Tree,
@@ -11,7 +11,7 @@ pub struct Object {
 
 /// The effective objects, by name, the number of files, and the first fault of a file's own parameters: what comes after
 /// merging in the order of faults.
-#[derive(Debug, Drop)]
+#[derive(Drop)]
 pub struct Merged {
     pub views: Items<Object>,
     pub explores: Items<Object>,

@@ -14,7 +14,7 @@ use lk_val::{Items, NoMemory, Text};
 use std::alloc::Global;
 
 /// The kinds of the columns that the rows of each view have, by the view's number; none where a kind can't be told.
-#[derive(Debug, Drop)]
+#[derive(Drop)]
 pub struct ViewKinds {
     pub views: Items<Items<Option<Kind>>>,
 }

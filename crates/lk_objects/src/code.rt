@@ -2,7 +2,7 @@ use lk_types::{Expr, NumExpr};
 use lk_val::{Items, Text};
 
 /// A name in an expression, as it is written. (Looker, LookML reference: sql)
-#[derive(Debug, Drop)]
+#[derive(Drop)]
 pub enum Reference {
     /// A field of the same view, `${name}`.
     Own(Text),

@@ -3,7 +3,7 @@ use lk_types::Trigger;
 use lk_val::Text;
 
 /// A datagroup, as it is declared. (Looker, LookML reference: datagroup)
-#[derive(Debug, Drop)]
+#[derive(Drop)]
 pub struct DeclaredDatagroup {
     pub name: Text,
     /// What it watches, by the numbers of the schema's tables and columns.

@@ -58,7 +58,7 @@ pub struct AlwaysFilter {
 }
 
 /// A filter by an attribute of the caller. (Looker, LookML reference: access_filter)
-#[derive(Debug, Drop)]
+#[derive(Drop)]
 pub struct AccessFilter {
     pub field: Option<Text>,
     pub attribute: Option<Text>,

@@ -5,7 +5,7 @@ use lk_types::{Frame, Op};
 use lk_val::{Items, Text};
 
 /// The type of a dimension. (Looker, LookML reference: dimension types)
-#[derive(Clone, Copy, Debug, PartialEq, Eq)]
+#[derive(Clone, Copy, PartialEq, Eq)]
 pub enum DimensionType {
     /// `string`, and `zipcode`.
     Text,
@@ -18,7 +18,7 @@ pub enum DimensionType {
 }
 
 /// A field's sort, with its type where it has a known one. A dimension group has no type of its own.
-#[derive(Clone, Copy, Debug, PartialEq, Eq)]
+#[derive(Clone, Copy, PartialEq, Eq)]
 pub enum FieldSort {
     /// (Looker, LookML reference: dimension)
     Dimension(Option<DimensionType>),

@@ -2,7 +2,7 @@ use lk_types::Filter;
 use lk_val::Text;
 
 /// A filter's text as one grammar reads it. (Looker, filter expressions)
-#[derive(Debug, Drop)]
+#[derive(Drop)]
 pub enum ReadFilter {
     /// The filter that it is.
     Read(Filter),
@@ -12,7 +12,7 @@ pub enum ReadFilter {
 
 /// A filter on a field, as it is written. Which of the four readings counts is decided by the kind of the field that it
 /// names, which is known only where the name is resolved. (Looker, LookML reference: filters)
-#[derive(Debug, Drop)]
+#[derive(Drop)]
 pub struct FilterText {
     pub name: Text,
     pub text: Text,

@@ -38,14 +38,14 @@ pub struct DerivedTable {
 }
 
 /// A column of a derived table: its name and the field that it takes, as it is written.
-#[derive(Debug, Drop)]
+#[derive(Drop)]
 pub struct DeclaredColumn {
     pub name: Text,
     pub field: Text,
 }
 
 /// What a stored query names.
-#[derive(Debug, Drop)]
+#[derive(Drop)]
 pub enum Entry {
     /// A dimension of an aggregate table.
     Dimension(Text),

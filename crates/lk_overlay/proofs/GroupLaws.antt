@@ -1,6 +1,6 @@
 -- The parameters of each slot by its key.
 use Rattle.std.proofs.Common.{◌≡◌, ◌∙◌, ◌≤◌, ◌<◌, ◌+◌, ℕ, Bool, true, false, ◌&&◌, ◌||◌, cond, List, [], ◌∷◌, ◌++◌, map, length, drop, get_or, refl, sym, ap, append_assoc, append-nil, arith}
-use Rattle.std.specs.Prelude.{Option, Some, None, nat_eq, if◌then◌else◌}
+use Rattle.std.specs.Prelude.{Option, Some, None, nat_eq, not, if◌then◌else◌}
 use Rattle.std.specs.List.{filter, flat_map, list_any}
 use Rattle.std.specs.Option.{option_or}
 use Rattle.std.specs.Ordering.{is_eq, nat_cmp, ordering_then}
@@ -20,6 +20,7 @@ use Rattle.lk_overlay.specs.declared.slot.Slot.{Slot}
 use Rattle.lk_overlay.specs.declared.slot.Slot.TheVariants.{Parameter, Child, Alone}
 use Rattle.lk_overlay.specs.Overlay.{is_same_slot, in_slot, slot_of}
 use Rattle.lk_overlay.specs.Grouped.{SlotKey, Numbered, key_cmp, key_of, numbered, all_of, of_number, last_number, of_number_in, of_last}
+use Rattle.lk_overlay.proofs.SlotLaws.{slot_exact}
 use Rattle.lk_overlay.proofs.TextLaws.{text_tied, tied_exact}
 
 -- ---- keys
@@ -133,6 +134,17 @@ more_new slots s e = sym (ap (λ b. if b then slots else slots ++ s ∷ []) e)
 pub no_more_new : (slots : List Slot) (s : Slot) → list_any (is_same_slot s) slots ≡ true → slots ≡ with_new is_same_slot slots s
 no_more_new slots s e = sym (ap (λ b. if b then slots else slots ++ s ∷ []) e)
 
+-- the same, where all keys are known and the slot's is a further one
+pub new_by_key : (slots : List Slot) (s : Slot) (further there : Bool) → further ≡ not there → there ≡ list_any (is_same_slot s) slots
+    → further ≡ true → slots ++ s ∷ [] ≡ with_new is_same_slot slots s
+new_by_key slots s further true e known so = absurd (false≢true (sym e ∙ so))
+new_by_key slots s further false e known so = more_new slots s (sym known)
+
+pub known_by_key : (slots : List Slot) (s : Slot) (further there : Bool) → further ≡ not there → there ≡ list_any (is_same_slot s) slots
+    → further ≡ false → slots ≡ with_new is_same_slot slots s
+known_by_key slots s further true e known so = no_more_new slots s (sym known)
+known_by_key slots s further false e known so = absurd (false≢true (sym so ∙ e))
+
 cond_or : (b a : Bool) → cond b true a ≡ (a || (b || false))
 cond_or true true = refl
 cond_or true false = refl
@@ -158,6 +170,28 @@ keys_more slots s key has had is none never h known q =
     at (Parameter n) = keyed (Parameter n) (n, None) refl
     at (Child n t) = keyed (Child n t) (n, Some t) refl
     at (Alone item) = none ∙ sym never ∙ known (Alone item) ∙ sym (or_false (list_any (is_same_slot (Alone item)) slots))
+
+or_true : (a : Bool) → (a || true) ≡ true
+or_true true = refl
+or_true false = refl
+
+-- the keys of slots and one more are those of the slots with it, also where they have it
+pub keys_known : (slots : List Slot) (s : Slot) (has : Option SlotKey → Bool)
+    → ((q : Slot) → has (key_of q) ≡ list_any (is_same_slot q) (slots ++ s ∷ []))
+    → (q : Slot) → has (key_of q) ≡ list_any (is_same_slot q) (with_new is_same_slot slots s)
+keys_known slots s has known q =
+    known q ∙ elim (list_any (is_same_slot s) slots) as (λ b. list_any (is_same_slot s) slots ≡ b
+    → list_any (is_same_slot q) (slots ++ s ∷ []) ≡ list_any (is_same_slot q) (if b then slots else slots ++ s ∷ [])) [
+      | true ↦ λ there. list_any-append (is_same_slot q) slots (s ∷ []) ∙ stands there (is_same_slot q s) refl
+      | false ↦ λ new. refl
+    ] refl
+  where
+    stands : list_any (is_same_slot s) slots ≡ true → (b : Bool) → is_same_slot q s ≡ b
+        → (list_any (is_same_slot q) slots || (b || false)) ≡ list_any (is_same_slot q) slots
+    stands there true e =
+        or_true (list_any (is_same_slot q) slots)
+        ∙ sym (ap (λ t. list_any (is_same_slot t) slots) (slot_exact q s e) ∙ there)
+    stands there false e = or_false (list_any (is_same_slot q) slots)
 
 -- ---- those of a slot
 

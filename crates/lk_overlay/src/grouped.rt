@@ -1,9 +1,9 @@
-ghost use Rattle.std.specs.Prelude.{◌≡◌, ◌++◌, ◌∷◌, [], IfOk, OnOk, Some, if◌then◌else◌, map};
+ghost use Rattle.std.specs.Prelude.{◌≡◌, ◌++◌, ◌∷◌, [], IfOk, List, OnOk, Some, if◌then◌else◌, map, not};
 ghost use Rattle.std.specs.Ordering.{is_eq};
 ghost use Rattle.lk_overlay.specs.declared.slot.Slot.{Slot as SlotValue};
 ghost use Rattle.lk_params.specs.Picking.{with_new};
 ghost use Rattle.lk_overlay.specs.Overlay.{is_same_slot, in_slot, slot_of};
-ghost use Rattle.lk_overlay.specs.Grouped.{HasGroups, HasKeys, SlotKey, key_cmp, key_of, numbered, read, those_at};
+ghost use Rattle.lk_overlay.specs.Grouped.{HasGroups, HasKeys, SlotKey, has_key, key_cmp, key_of, numbered, read, those_at};
 
 use crate::kind::Kind;
 use crate::slot::{Slot, slot_of};
@@ -38,25 +38,12 @@ impl KnownSlots {
     pub fn with(self, alloc: Global, slot: Slot) -> Result<KnownSlots, NoMemory>
         ensures { IfOk result (λ with. with.slots ≡ with_new is_same_slot self.slots slot) }
     {
-        let key = key_of(alloc, &slot)?;
         let KnownSlots {
             mut slots,
             mut seen,
         } = self;
-        match key {
-            None => {
-                slots.push(slot)?;
-                Ok(KnownSlots { slots, seen })
-            }
-            Some(key) => {
-                if seen.insert(key)? {
-                    slots.push(slot)?;
-                    Ok(KnownSlots { slots, seen })
-                } else {
-                    Ok(KnownSlots { slots, seen })
-                }
-            }
-        }
+        add_slot(alloc, &mut slots, &mut seen, slot)?;
+        Ok(KnownSlots { slots, seen })
     }
 
     /// The slots alone.
@@ -65,6 +52,37 @@ impl KnownSlots {
     {
         let KnownSlots { slots, .. } = self;
         slots
+    }
+}
+
+fn add_slot(
+    alloc: Global,
+    slots: &mut Items<Slot>,
+    seen: &mut BTreeSet<Key>,
+    slot: Slot,
+) -> Result<(), NoMemory>
+    requires { HasKeys slots.old seen.old }
+    ensures slots { OnOk result (slots.new ≡ with_new is_same_slot slots.old slot) }
+    ensures keys { OnOk result (HasKeys slots.new seen.new) }
+{
+    if add_key(alloc, seen, &slot)? {
+        slots.push(slot)?;
+    } else {
+        // Let go of by a call: it has less to prove than the slot's parts, which the block's end would let go of.
+        drop(slot);
+    }
+    Ok(())
+}
+
+// Takes up a slot's key, and says whether it is a further one.
+fn add_key(alloc: Global, seen: &mut BTreeSet<Key>, slot: &Slot) -> Result<bool, NoMemory>
+    ensures further { IfOk result (λ further. further ≡ not (has_key seen.old (key_of slot.now))) }
+    ensures keys { OnOk result ((slots : List SlotValue) → HasKeys slots seen.old
+        → HasKeys (with_new is_same_slot slots slot.now) seen.new) }
+{
+    match key_of(alloc, slot)? {
+        None => Ok(true),
+        Some(key) => Ok(seen.insert(key)?),
     }
 }
 
@@ -162,14 +180,21 @@ fn add_item<'a>(
         ≡ those_at groups.old (key_of slot)
         ++ (if is_same_slot slot (slot_of kind item.now) then (number, item.now) ∷ [] else [])) }
 {
-    let slot = slot_of(alloc, kind, item)?;
-    match key_of(alloc, &slot)? {
+    match item_key(alloc, kind, item)? {
         None => Ok(()),
         Some(key) => {
             add_at(alloc, key, number, item, groups)?;
             Ok(())
         }
     }
+}
+
+// The key of an item's slot.
+fn item_key(alloc: Global, kind: Kind, item: &Item) -> Result<Option<Key>, NoMemory>
+    ensures { IfOk result (λ key. key ≡ key_of (slot_of kind item.now)) }
+{
+    let slot = slot_of(alloc, kind, item)?;
+    key_of(alloc, &slot)
 }
 
 fn add_at<'a>(

@@ -1,5 +1,5 @@
 /// What a file can declare.
-#[derive(Clone, Copy, Debug, PartialEq, Eq)]
+#[derive(Clone, Copy, PartialEq, Eq)]
 pub enum Kind {
     View,
     Explore,

@@ -8,7 +8,7 @@ use lk_val::{NoMemory, Text};
 use std::alloc::Global;
 
 /// Where a parameter of an object goes when its contributors are merged.
-#[derive(Debug, Drop)]
+#[derive(Drop)]
 pub enum Slot {
     /// By its name: the last contributor that has it decides.
     Parameter(Text),

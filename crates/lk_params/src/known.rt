@@ -2,7 +2,7 @@ ghost use Rattle.std.specs.Prelude.{◌≡◌, ◌&&◌, IfOk, option_map};
 ghost use Rattle.lk_params.specs.Values.{scalar};
 ghost use Rattle.lk_val.specs.Texts.{is_same_text};
 ghost use Rattle.std.specs.List.{fold, list_any};
-ghost use Rattle.lk_params.specs.Known.{is_known, is_single, is_child, stands_again, is_monday, is_other_week, has_liquid, holds_liquid, begins_liquid, parameter_of, if_so, block_findings, item_findings};
+ghost use Rattle.lk_params.specs.Known.{is_known, is_single, is_child, has_many, stands_again, is_monday, is_other_week, has_liquid, holds_liquid, begins_liquid, parameter_of, if_so, block_findings, item_findings};
 ghost use Rattle.lk_params.specs.Findings.{sooner, finding, named_line};
 
 use crate::finding::{Finding, Findings};
@@ -203,16 +203,20 @@ fn is_single(owner: Owner, item: &Item) -> bool
 fn is_child(owner: Owner, item: &Item) -> bool
     ensures { result ≡ is_child owner item.now }
 {
-    let name = item.name.as_str();
-    let many = match owner {
+    match &item.value {
+        Node::Block(Some(_), _) => has_many(owner, item.name.as_str()),
+        _ => false,
+    }
+}
+
+fn has_many(owner: Owner, name: &str) -> bool
+    ensures { result ≡ has_many owner name.now }
+{
+    match owner {
         Owner::File => name == "view" || name == "explore" || name == "datagroup",
         Owner::View => name == "dimension" || name == "dimension_group" || name == "measure",
         Owner::Explore => name == "join" || name == "aggregate_table",
         Owner::ExploreSource => name == "column",
-        _ => false,
-    };
-    match &item.value {
-        Node::Block(Some(_), _) => many,
         _ => false,
     }
 }

@@ -4,7 +4,7 @@ ghost use Rattle.lk_val.specs.Texts.{is_same_text};
 ghost use Rattle.lk_params.specs.Owners.{has_effect, is_display};
 
 /// What a block of parameters belongs to.
-#[derive(Clone, Copy, Debug, PartialEq, Eq)]
+#[derive(Clone, Copy, PartialEq, Eq)]
 pub enum Owner {
     File,
     View,

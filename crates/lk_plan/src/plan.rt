@@ -6,7 +6,7 @@ ghost use Rattle.lk_plan.specs.Conditions.{passing_condition, visible_condition}
 
 use crate::conditions::{passing_condition, visible_condition};
 use lk_tree::fanned;
-use lk_types::{Bound, Explore, Model, Plan};
+use lk_types::{Bound, Explore, Filter, Model, Pick, Plan, Sort};
 use lk_val::{Items, NoMemory};
 use std::alloc::Global;
 
@@ -24,11 +24,14 @@ pub fn compile(alloc: Global, m: &Model, b: &Bound) -> Result<Plan, NoMemory>
         ≡ map (is_fanned (explore_at m.now b.now.explore) b.now.joins) (numbers_below (length (explore_at m.now b.now.explore).parts))) }
 {
     let x = &m.explores.as_slice()[b.explore as usize];
+    let fanned = fanned_views(alloc, x, b.joins.as_slice())?;
+    let visible = visible_condition(alloc, x, b)?;
+    let passing = passing_condition(alloc, x, b)?;
     Ok(Plan {
         bound: copy_of(alloc, b)?,
-        visible: visible_condition(alloc, x, b)?,
-        passing: passing_condition(alloc, x, b)?,
-        fanned: fanned_views(alloc, x, b.joins.as_slice())?,
+        visible,
+        passing,
+        fanned,
     })
 }
 
@@ -36,17 +39,55 @@ pub fn compile(alloc: Global, m: &Model, b: &Bound) -> Result<Plan, NoMemory>
 fn copy_of(alloc: Global, b: &Bound) -> Result<Bound, NoMemory>
     ensures { IfOk result (λ made. made ≡ b.now) }
 {
+    let filters = filters_of(alloc, b)?;
+    let fields = fields_of(alloc, b)?;
     Ok(Bound {
         explore: b.explore,
-        picks: b.picks.copy_plain(alloc)?,
-        joins: b.joins.copy_plain(alloc)?,
-        access: b.access.copy(alloc)?,
-        rows: b.rows.copy(alloc)?,
-        having: b.having.copy(alloc)?,
-        sorts: b.sorts.copy_plain(alloc)?,
+        picks: fields.picks,
+        joins: fields.joins,
+        access: filters.access,
+        rows: filters.rows,
+        having: filters.having,
+        sorts: fields.sorts,
         limit: b.limit,
         fresh: b.fresh,
         csv: b.csv,
+    })
+}
+
+// The filters of a bound query.
+#[derive(Drop)]
+struct Filters {
+    access: Items<(u32, Filter)>,
+    rows: Items<(u32, Filter)>,
+    having: Items<(u32, Filter)>,
+}
+
+fn filters_of(alloc: Global, b: &Bound) -> Result<Filters, NoMemory>
+    ensures { IfOk result (λ made. made ≡ record { access = b.now.access; rows = b.now.rows; having = b.now.having }) }
+{
+    Ok(Filters {
+        access: b.access.copy(alloc)?,
+        rows: b.rows.copy(alloc)?,
+        having: b.having.copy(alloc)?,
+    })
+}
+
+// What a bound query picks, joins and sorts by.
+#[derive(Drop)]
+struct Fields {
+    picks: Items<Pick>,
+    joins: Items<u32>,
+    sorts: Items<Sort>,
+}
+
+fn fields_of(alloc: Global, b: &Bound) -> Result<Fields, NoMemory>
+    ensures { IfOk result (λ made. made ≡ record { picks = b.now.picks; joins = b.now.joins; sorts = b.now.sorts }) }
+{
+    Ok(Fields {
+        picks: b.picks.copy_plain(alloc)?,
+        joins: b.joins.copy_plain(alloc)?,
+        sorts: b.sorts.copy_plain(alloc)?,
     })
 }
 

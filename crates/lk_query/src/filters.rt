@@ -11,7 +11,7 @@ use lk_val::{Items, NoMemory};
 use std::alloc::Global;
 
 /// The filters of a bound query, at their moment: the caller's, those on dimensions, and those on measures.
-#[derive(Debug, Drop)]
+#[derive(Drop)]
 pub struct Filters {
     pub access: Items<(u32, Filter)>,
     pub rows: Items<(u32, Filter)>,

@@ -15,7 +15,7 @@ use std::alloc::Global;
 
 /// A caller's query over an explore before any filter is read: its own filters by the bytes of their names, and the
 /// access filters as declared.
-#[derive(Debug, Drop)]
+#[derive(Drop)]
 pub struct Request {
     pub limit: u32,
     pub picks: Items<Pick>,

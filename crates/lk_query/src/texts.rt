@@ -16,7 +16,7 @@ use lk_val::{Items, NoMemory, Text};
 use std::alloc::Global;
 
 /// A filter's text on a dimension or a measure, the kind of filter that it is to be, and the name that it goes by.
-#[derive(Debug, Drop)]
+#[derive(Drop)]
 pub struct FilterText {
     pub on: Pick,
     pub kind: FilterKind,

@@ -14,3 +14,5 @@ pub mod TreeFalls
 pub mod BreaksOff
 pub mod Faults
 pub mod Outcome
+pub mod BrokenOff
+pub mod Further

@@ -1,4 +1,5 @@
 ghost use Rattle.std.specs.Prelude.{◌≡◌, ◌<◌, ◌^◌, List, length, IfOk, IfErr, IfSome, Ok, Err};
+ghost use Rattle.lk_read.specs.BrokenOff.{broken_off};
 ghost use Rattle.lk_read.specs.Faults.{AsFault};
 ghost use Rattle.lk_read.specs.Outcome.{IsOutcome, outcome_of};
 ghost use Rattle.lk_read.specs.Grammar.{IsFile};
@@ -8,7 +9,7 @@ ghost use Rattle.lk_read.specs.Outline.{Outline, word};
 ghost use Rattle.lk_read.specs.Lines.{Line};
 
 use crate::builder::Builder;
-use crate::phase::{Param, Phase, Slot};
+use crate::phase::{Param, Phase, Slot, let_go};
 use crate::pieces::{text_of, with_value};
 use crate::read_fault::ReadFault;
 use crate::reader::Reader;
@@ -61,16 +62,28 @@ fn end_at(alloc: Global, builder: Builder, phase: Phase, place: u32) -> Result<T
 {
     match phase {
         Phase::Between => whole(builder),
-        Phase::Name(_, _) => Err(missing(&builder, place)),
-        Phase::Colon(_) => Err(missing(&builder, place)),
-        Phase::Start(_, slot) => Err(start_end(&builder, &slot, place)),
-        Phase::Word(param, slot, text) => word_end(builder, param, slot, text_of(alloc, text)?),
+        Phase::Word(param, slot, text) => bytes_end(alloc, builder, param, slot, text),
         Phase::Behind(param, slot, text) => word_end(builder, param, slot, text),
-        Phase::Comma(_, list) => Err(ReadFault::R2(list.bracket)),
-        Phase::Quoted(_, _, quote, _, _) => Err(ReadFault::R1(quote)),
-        Phase::Escape(_, _, quote, _) => Err(ReadFault::R1(quote)),
-        Phase::Code(param, _, _) => Err(ReadFault::R3(param.place)),
-        Phase::Semicolon(param, _) => Err(ReadFault::R3(param.place)),
+        other => {
+            let why = broken_off(&builder, &other, place);
+            let_go(other);
+            Err(why)
+        }
+    }
+}
+
+/// The fault of a text that ends before a value or in the middle of one.
+fn broken_off(builder: &Builder, phase: &Phase, place: u32) -> ReadFault
+    ensures { broken_off builder.now phase.now place ≡ Err result }
+{
+    match phase {
+        Phase::Start(_, slot) => start_end(builder, slot, place),
+        Phase::Comma(_, list) => ReadFault::R2(list.bracket),
+        Phase::Quoted(_, _, quote, _, _) => ReadFault::R1(*quote),
+        Phase::Escape(_, _, quote, _) => ReadFault::R1(*quote),
+        Phase::Code(param, _, _) => ReadFault::R3(param.place),
+        Phase::Semicolon(param, _) => ReadFault::R3(param.place),
+        _ => missing(builder, place),
     }
 }
 
@@ -102,6 +115,19 @@ fn start_end(builder: &Builder, slot: &Slot, place: u32) -> ReadFault
         Slot::Entry(list) => ReadFault::R2(list.bracket),
         Slot::Pair(list, _) => ReadFault::R2(list.bracket),
     }
+}
+
+fn bytes_end(
+    alloc: Global,
+    builder: Builder,
+    param: Param,
+    slot: Slot,
+    text: Bytes,
+) -> Result<Tree, ReadFault>
+    ensures { GivesLines result (word_end builder param slot text) }
+{
+    let text = text_of(alloc, text)?;
+    word_end(builder, param, slot, text)
 }
 
 fn word_end(builder: Builder, param: Param, slot: Slot, text: Text) -> Result<Tree, ReadFault>

@@ -50,3 +50,6 @@ pub(crate) enum Phase {
     /// Behind a semicolon in code.
     Semicolon(Param, Bytes),
 }
+
+/// Lets go of a phase. That goes many ways, so it stands here once, and not in each function that ends a phase.
+pub(crate) fn let_go(_phase: Phase) {}

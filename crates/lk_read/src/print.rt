@@ -1,4 +1,4 @@
-ghost use Rattle.std.specs.Prelude.{◌≡◌, ◌++◌, ◌∷◌, [], IfOk, Option, Some, None};
+ghost use Rattle.std.specs.Prelude.{◌≡◌, ◌++◌, ◌∷◌, [], codes, IfOk, Option, Some, None};
 ghost use Rattle.lk_read.specs.Canonical.{canonical, SpellsAgain, text_at, characters, escaped, string_text, entry_text, further_entries, entries_text, plain_text, title_text, start_text, block_text};
 ghost use Rattle.lk_read.specs.EntryOutline.{value_text, entry_of, entries_of};
 ghost use Rattle.lk_read.specs.Outline.{no_more, list};
@@ -36,9 +36,7 @@ fn print_item(alloc: Global, text: Bytes, item: &Item, margin: &[u8]) -> Result<
     ensures { IfOk result (λ made. made
         ≡ text ++ text_at margin.now (item_before item.now.name item.now.place item.now.value no_more)) }
 {
-    let text = with(text, margin)?;
-    let text = with(text, item.name.as_bytes())?;
-    let text = with(text, b": ")?;
+    let text = start_line(text, margin, item.name.as_bytes())?;
     match &item.value {
         Node::Block(title, inner) => {
             let text = print_title(text, title)?;
@@ -57,7 +55,7 @@ fn print_value(alloc: Global, text: Bytes, value: &Node) -> Result<Bytes, NoMemo
         Node::Word(word) => with(text, word.as_bytes()),
         Node::Quoted(string) => print_string(text, string.as_bytes()),
         Node::List(entries) => print_list(alloc, text, entries.as_slice()),
-        Node::Code(code) => with(with(text, code.as_bytes())?, b" ;;"),
+        Node::Code(code) => print_code(text, code.as_bytes()),
         Node::Block(title, inner) => {
             let text = print_title(text, title)?;
             print_block(alloc, text, inner, &[])
@@ -71,13 +69,42 @@ fn print_block(alloc: Global, text: Bytes, inner: &Tree, margin: &[u8]) -> Resul
         ≡ text ++ block_text margin.now inner.now (text_at (margin.now ++ 32 ∷ 32 ∷ []) inner.now)) }
 {
     if inner.is_empty() {
-        return end_line(with(text, b"{ }")?);
+        return print_empty(text);
     }
-    let text = with(text, b"{\n")?;
-    let deeper = with(Bytes::from_slice(alloc, margin)?, b"  ")?;
-    let text = print_items(alloc, text, inner, deeper.as_slice())?;
-    let text = with(text, margin)?;
-    with(text, b"}\n")
+    let deeper = deeper_margin(alloc, margin)?;
+    let text = print_items(alloc, with(text, b"{\n")?, inner, deeper.as_slice())?;
+    end_block(text, margin)
+}
+
+fn print_empty(text: Bytes) -> Result<Bytes, NoMemory>
+    ensures { IfOk result (λ made. made ≡ text ++ codes "{ }" ++ 10 ∷ []) }
+{
+    end_line(with(text, b"{ }")?)
+}
+
+fn deeper_margin(alloc: Global, margin: &[u8]) -> Result<Bytes, NoMemory>
+    ensures { IfOk result (λ made. made ≡ margin.now ++ 32 ∷ 32 ∷ []) }
+{
+    with(Bytes::from_slice(alloc, margin)?, b"  ")
+}
+
+fn end_block(text: Bytes, margin: &[u8]) -> Result<Bytes, NoMemory>
+    ensures { IfOk result (λ made. made ≡ text ++ margin.now ++ 125 ∷ 10 ∷ []) }
+{
+    with(with(text, margin)?, b"}\n")
+}
+
+/// A line's margin, and the name with its colon.
+fn start_line(text: Bytes, margin: &[u8], name: &[u8]) -> Result<Bytes, NoMemory>
+    ensures { IfOk result (λ made. made ≡ text ++ start_text margin.now name.now) }
+{
+    with(with(with(text, margin)?, name)?, b": ")
+}
+
+fn print_code(text: Bytes, code: &[u8]) -> Result<Bytes, NoMemory>
+    ensures { IfOk result (λ made. made ≡ text ++ code.now ++ codes " ;;") }
+{
+    with(with(text, code)?, b" ;;")
 }
 
 /// A block's name and a space, if it has a name.
@@ -129,11 +156,15 @@ fn print_entry(alloc: Global, text: Bytes, entry: &Entry) -> Result<Bytes, NoMem
 {
     match entry {
         Entry::One(value) => print_value(alloc, text, value),
-        Entry::Pair(key, string) => {
-            let text = with(text, key.as_bytes())?;
-            print_string(with(text, b": ")?, string.as_bytes())
-        }
+        Entry::Pair(key, string) => print_pair(text, key.as_bytes(), string.as_bytes()),
     }
+}
+
+fn print_pair(text: Bytes, key: &[u8], string: &[u8]) -> Result<Bytes, NoMemory>
+    ensures { IfOk result (λ made. made ≡ text ++ key.now ++ codes ": " ++ string_text string.now) }
+{
+    let text = with(text, key)?;
+    print_string(with(text, b": ")?, string)
 }
 
 fn print_string(text: Bytes, string: &[u8]) -> Result<Bytes, NoMemory>

@@ -7,7 +7,7 @@ ghost use Rattle.lk_read.specs.Outcome.{Outcome, IsOutcome};
 use lk_val::NoMemory;
 
 /// Why a text was not read, with the place of the fault. The text is read from the front.
-#[derive(Clone, Copy, Debug, PartialEq, Eq)]
+#[derive(Clone, Copy, PartialEq, Eq)]
 pub enum ReadFault {
     /// The text ends in a string, which begins here.
     R1(u32),

@@ -5,7 +5,7 @@ ghost use Rattle.lk_read.specs.Reading.{Gives, start_of_file, in_phase, step, st
 
 use crate::builder::Builder;
 use crate::letters::{is_code_name, is_name_byte, is_space, is_word_byte};
-use crate::phase::{Param, Phase, Slot};
+use crate::phase::{Param, Phase, Slot, let_go};
 use crate::pieces::{one_byte, text_of, with_byte};
 use crate::read_fault::ReadFault;
 use crate::string::{code_at, escape_at, quoted_at, semicolon_at};
@@ -181,7 +181,10 @@ pub(crate) fn piece_at(
             behind_at(alloc, builder, param, slot, text, place, byte)
         }
         Phase::Comma(param, list) => comma_at(builder, param, list, place, byte),
-        _ => Err(ReadFault::R4(place)),
+        other => {
+            let_go(other);
+            Err(ReadFault::R4(place))
+        }
     }
 }
 

@@ -1,10 +1,16 @@
-ghost use Rattle.lk_read.specs.Reading.{Gives, quoted_at, string_ended, escape_at, code_at, semicolon_at};
+ghost use Rattle.std.specs.Prelude.{◌++◌};
+ghost use Rattle.lk_read.specs.Built.{with_lines};
+ghost use Rattle.lk_read.specs.EntryOutline.{entry_of};
+ghost use Rattle.lk_read.specs.Further.{further};
+ghost use Rattle.lk_read.specs.Grammar.{trimmed};
+ghost use Rattle.lk_read.specs.Outline.{code};
+ghost use Rattle.lk_read.specs.Reading.{Gives, in_phase, with_entry, with_plain, quoted_at, string_ended, escape_at, code_at, semicolon_at};
+ghost use Rattle.lk_read.specs.TreeOutline.{item_lines};
+ghost use Rattle.lk_read.specs.declared.phase.Phase.TheVariants as phase;
 
 use crate::builder::Builder;
-use crate::phase::{Param, Phase, Slot};
-use crate::pieces::{
-    text_of, text_of_slice, with_byte, with_bytes, with_entry, with_escape, with_value,
-};
+use crate::phase::{OpenList, Param, Phase, Slot};
+use crate::pieces::{text_of, text_of_slice, with_bytes, with_entry, with_escape, with_value};
 use crate::read_fault::ReadFault;
 use crate::reader::Reader;
 use crate::tree::{Entry, Node};
@@ -32,13 +38,8 @@ pub(crate) fn quoted_at(
     } else if is_whole(utf8) && byte == b'\\' {
         Ok(Reader::within(builder, Phase::Escape(param, slot, quote, text)))
     } else {
-        match utf8_after(utf8, byte) {
-            Some(next) => {
-                let text = with_byte(text, byte)?;
-                Ok(Reader::within(builder, Phase::Quoted(param, slot, quote, text, next)))
-            }
-            None => Err(ReadFault::R4(place)),
-        }
+        let (text, next) = further(text, &[byte], utf8_after(utf8, byte), place)?;
+        Ok(Reader::within(builder, Phase::Quoted(param, slot, quote, text, next)))
     }
 }
 
@@ -51,19 +52,30 @@ pub(crate) fn end_string(
     ensures { Gives result (string_ended builder param slot text) }
 {
     match slot {
-        Slot::Value => {
-            let builder = with_value(builder, param, Node::Quoted(text))?;
-            Ok(Reader::within(builder, Phase::Between))
-        }
-        Slot::Entry(list) => {
-            let list = with_entry(list, Entry::One(Node::Quoted(text)))?;
-            Ok(Reader::within(builder, Phase::Comma(param, list)))
-        }
-        Slot::Pair(list, key) => {
-            let list = with_entry(list, Entry::Pair(key, text))?;
-            Ok(Reader::within(builder, Phase::Comma(param, list)))
-        }
+        Slot::Value => end_value(builder, param, Node::Quoted(text)),
+        Slot::Entry(list) => end_entry(builder, param, list, Entry::One(Node::Quoted(text))),
+        Slot::Pair(list, key) => end_entry(builder, param, list, Entry::Pair(key, text)),
     }
+}
+
+fn end_value(builder: Builder, param: Param, value: Node) -> Result<Reader, ReadFault>
+    ensures { Gives result
+        (in_phase (with_lines builder (item_lines param.name param.place value)) phase.Between) }
+{
+    let builder = with_value(builder, param, value)?;
+    Ok(Reader::within(builder, Phase::Between))
+}
+
+fn end_entry(
+    builder: Builder,
+    param: Param,
+    list: OpenList,
+    entry: Entry,
+) -> Result<Reader, ReadFault>
+    ensures { Gives result (in_phase builder (phase.Comma param (with_entry list (entry_of entry)))) }
+{
+    let list = with_entry(list, entry)?;
+    Ok(Reader::within(builder, Phase::Comma(param, list)))
 }
 
 pub(crate) fn escape_at(
@@ -86,6 +98,21 @@ pub(crate) fn escape_at(
     }
 }
 
+/// A text with these bytes, and what its last character owes, unless no character goes on so.
+fn further(
+    text: Bytes,
+    more: &[u8],
+    next: Option<Utf8>,
+    place: u32,
+) -> Result<(Bytes, Utf8), ReadFault>
+    ensures { Gives result (further (text ++ more.now) next place) }
+{
+    match next {
+        Some(next) => Ok((with_bytes(text, more)?, next)),
+        None => Err(ReadFault::R4(place)),
+    }
+}
+
 pub(crate) fn code_at(
     builder: Builder,
     param: Param,
@@ -99,13 +126,8 @@ pub(crate) fn code_at(
     if is_whole(utf8) && byte == b';' {
         return Ok(Reader::within(builder, Phase::Semicolon(param, raw)));
     }
-    match utf8_after(utf8, byte) {
-        Some(next) => {
-            let raw = with_byte(raw, byte)?;
-            Ok(Reader::within(builder, Phase::Code(param, raw, next)))
-        }
-        None => Err(ReadFault::R4(place)),
-    }
+    let (raw, next) = further(raw, &[byte], utf8_after(utf8, byte), place)?;
+    Ok(Reader::within(builder, Phase::Code(param, raw, next)))
 }
 
 pub(crate) fn semicolon_at(
@@ -119,15 +141,15 @@ pub(crate) fn semicolon_at(
     ensures { Gives result (semicolon_at builder param raw place byte) }
 {
     if byte == b';' {
-        let text = text_of_slice(alloc, trimmed(raw.as_slice()))?;
-        let builder = with_value(builder, param, Node::Code(text))?;
-        return Ok(Reader::within(builder, Phase::Between));
+        return end_code(alloc, builder, param, raw);
     }
-    match utf8_after(Utf8::Whole, byte) {
-        Some(next) => {
-            let raw = with_bytes(raw, &[b';', byte])?;
-            Ok(Reader::within(builder, Phase::Code(param, raw, next)))
-        }
-        None => Err(ReadFault::R4(place)),
-    }
+    let (raw, next) = further(raw, &[b';', byte], utf8_after(Utf8::Whole, byte), place)?;
+    Ok(Reader::within(builder, Phase::Code(param, raw, next)))
+}
+
+fn end_code(alloc: Global, builder: Builder, param: Param, raw: Bytes) -> Result<Reader, ReadFault>
+    ensures { Gives result (in_phase (with_plain builder param (code (trimmed raw))) phase.Between) }
+{
+    let text = text_of_slice(alloc, trimmed(raw.as_slice()))?;
+    end_value(builder, param, Node::Code(text))
 }

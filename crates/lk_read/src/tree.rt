@@ -7,14 +7,14 @@ use std::marker::Model;
 
 /// The parameters of a file or of a block, in order. Clauses see its outline.
 #[cycle(tree)]
-#[derive(Debug, Drop)]
+#[derive(Drop)]
 pub struct Tree {
     items: Vec<Item>,
 }
 
 /// A parameter: its name, its value, and the byte of its name in the text.
 #[cycle(tree)]
-#[derive(Debug, Drop)]
+#[derive(Drop)]
 pub struct Item {
     pub name: Text,
     pub value: Node,
@@ -23,7 +23,7 @@ pub struct Item {
 
 /// A parameter's value.
 #[cycle(tree)]
-#[derive(Debug, Drop)]
+#[derive(Drop)]
 pub enum Node {
     Word(Text),
     Quoted(Text),
@@ -34,7 +34,7 @@ pub enum Node {
 
 /// One entry of a list. A text has words, strings and pairs there; a list that is made by hand may hold any value.
 #[cycle(tree)]
-#[derive(Debug, Drop)]
+#[derive(Drop)]
 pub enum Entry {
     /// A value.
     One(Node),
@@ -45,7 +45,7 @@ pub enum Entry {
 /// The entries of a list, in order. Clauses see the list of them: a word, a string or a pair as it is, and any other
 /// value as its canonical text.
 #[cycle(tree)]
-#[derive(Debug, Drop)]
+#[derive(Drop)]
 pub struct Entries {
     items: Vec<Entry>,
 }

@@ -13,21 +13,21 @@ use lk_val::{Items, NoMemory, Text};
 use std::alloc::Global;
 
 // A dimension by its full name, and the declared field that makes it.
-#[derive(Debug, Drop)]
+#[derive(Drop)]
 pub(crate) struct NamedDimension {
     pub(crate) name: Text,
     pub(crate) found: Found,
 }
 
 // A measure by its full name.
-#[derive(Debug, Drop)]
+#[derive(Drop)]
 pub(crate) struct NamedMeasure {
     pub(crate) name: Text,
     pub(crate) place: Place,
 }
 
 // The dimensions, measures and dimension groups of an explore, by name.
-#[derive(Debug, Drop)]
+#[derive(Drop)]
 pub(crate) struct Named {
     pub(crate) dimensions: Items<NamedDimension>,
     pub(crate) measures: Items<NamedMeasure>,

@@ -13,7 +13,7 @@ use std::alloc::Global;
 const FILE: &str = "schema.csv";
 
 /// A column that a row declares: its table, its name, its kind, and whether it is the table's key.
-#[derive(Debug, Drop)]
+#[derive(Drop)]
 pub struct Declared {
     pub table: Text,
     pub column: Text,

@@ -11,7 +11,7 @@ use std::alloc::Global;
 const FILE: &str = "users.csv";
 
 /// The rows of the users, in order: a user, an attribute and its value. An empty attribute only declares the user.
-#[derive(Debug, Drop)]
+#[derive(Drop)]
 pub struct Users {
     pub rows: Items<(Text, Text, Text)>,
 }

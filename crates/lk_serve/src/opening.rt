@@ -33,14 +33,14 @@ use std::alloc::Global;
 
 /// What a project is opened for: queries alone, over any resolved model all of whose tables are stored; or all requests, over
 /// such a model that has no datagroups, so that a check has nothing to build.
-#[derive(Clone, Copy, Debug, PartialEq, Eq)]
+#[derive(Clone, Copy, PartialEq, Eq)]
 pub enum Service {
     Queries,
     Requests,
 }
 
 /// Why a project did not open.
-#[derive(Debug, Drop)]
+#[derive(Drop)]
 pub enum Why {
     /// The line on it.
     Told(Reply),

@@ -9,7 +9,7 @@ use lk_val::{Bytes, FaultLine, NoMemory};
 use std::alloc::Global;
 
 /// How a run ends that nothing from outside has stopped.
-#[derive(Clone, Copy, Debug, PartialEq, Eq)]
+#[derive(Clone, Copy, PartialEq, Eq)]
 pub enum Status {
     /// The query is answered, or the project has no fault.
     Done,
@@ -36,7 +36,7 @@ impl Status {
 }
 
 /// What a run writes, and how it ends.
-#[derive(Debug, Drop)]
+#[derive(Drop)]
 pub struct Reply {
     pub body: Bytes,
     pub status: Status,

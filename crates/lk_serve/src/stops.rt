@@ -4,7 +4,7 @@ ghost use Rattle.lk_serve.specs.Stops.{stop_code};
 use lk_val::NoMemory;
 
 /// Why a run stopped before it had a reply.
-#[derive(Clone, Copy, Debug, PartialEq, Eq)]
+#[derive(Clone, Copy, PartialEq, Eq)]
 pub enum Stop {
     /// The input's count of faults rose.
     Input,

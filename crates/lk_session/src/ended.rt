@@ -1,5 +1,5 @@
 /// How a session ends.
-#[derive(Clone, Copy, Debug, PartialEq, Eq)]
+#[derive(Clone, Copy, PartialEq, Eq)]
 pub enum Ended {
     /// The input ended at a border of requests, or the last request asked to close.
     Clean,

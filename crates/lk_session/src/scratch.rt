@@ -1,7 +1,7 @@
 ghost use Rattle.std.specs.Prelude.{◌≡◌};
 
 /// What the last query went over: joined rows of the tables, of those that its caller may see, and rows of aggregate tables.
-#[derive(Clone, Copy, Debug, PartialEq, Eq)]
+#[derive(Clone, Copy, PartialEq, Eq)]
 pub struct Scratch {
     pub joined_rows: u64,
     pub rollup_rows: u64,

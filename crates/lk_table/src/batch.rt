@@ -4,7 +4,7 @@ ghost use Rattle.csv.specs.Records.{fields_of};
 ghost use Rattle.lk_csv.specs.Reading.{IsReading, records_left};
 ghost use Rattle.lk_val.specs.Memory.{IsUnlessMemory};
 ghost use Rattle.lk_table.specs.Contents.{kind_of, lacks_key, row_at};
-ghost use Rattle.lk_table.specs.Batches.{batch_of, content_from, rows_behind, with_keys};
+ghost use Rattle.lk_table.specs.Batches.{batch_from, batch_of, column_at, content_from, rows_behind, with_keys};
 ghost use Rattle.lk_table.specs.Reading.{no_rows, record_added, rows_added};
 ghost use Rattle.lk_table.specs.Faults.{is_no_memory};
 ghost use Rattle.lk_table.specs.Versions.{IsShaped};
@@ -12,9 +12,8 @@ ghost use Rattle.lk_table.specs.Widening.{IsOnce};
 
 use crate::block::Block;
 use crate::fault::BatchFault;
-use crate::header::{columns_at, read_places};
+use crate::header::{columns_at, places_in};
 use crate::parse::read_values;
-use crate::records::fields_in;
 use csv::{ByteRecord, Reader};
 use lk_csv::{reader_over, take_record};
 use lk_types::{ColumnDef, Kind, TableDef};
@@ -63,17 +62,36 @@ pub fn read_batch(alloc: Global, def: &TableDef, csv: &[u8]) -> Result<Batch, Ba
 {
     let mut reader = reader_over(alloc, csv);
     let mut header = ByteRecord::new(alloc);
-    if !take_record(&mut reader, &mut header)? {
+    read_headed(alloc, def, &mut reader, &mut header)
+}
+
+// The batch of all the reader's records, of which the first is read into `header`.
+fn read_headed(
+    alloc: Global,
+    def: &TableDef,
+    reader: &mut Reader<&[u8]>,
+    header: &mut ByteRecord,
+) -> Result<Batch, BatchFault>
+    requires { IsReading reader.old }
+    ensures value { IsUnlessMemory is_no_memory result (batch_from def.now (records_left reader.old)) }
+    ensures shape { IfOk result (λ batch. IsShaped (map kind_of def.now.columns) def.now.key batch) }
+{
+    if !take_record(reader, header)? {
         return Err(BatchFault::L3 {
             row: 0,
             column: Text::new(alloc),
         });
     }
-    let names = fields_in(alloc, &header)?;
-    let places = read_places(alloc, def.columns.as_slice(), &names)?;
-    let block = read_behind(alloc, def, &places, &mut reader)?;
+    let places = places_in(alloc, def.columns.as_slice(), header)?;
+    let block = read_behind(alloc, def, &places, reader)?;
+    Ok(hold(alloc, with_keys(block)?)?)
+}
+
+fn hold(alloc: Global, block: Block) -> Result<Batch, NoMemory>
+    ensures { IfOk result (λ batch. batch ≡ block) }
+{
     Ok(Batch {
-        block: Arc::new(alloc, with_keys(block)?.shrunk())?,
+        block: Arc::new(alloc, block.shrunk())?,
     })
 }
 
@@ -91,10 +109,26 @@ fn read_behind(
         (content_from def.now (rows_behind def.now.columns (records_left reader.old) places.now)) }
 {
     let columns = def.columns.as_slice();
-    let named = columns_at(alloc, columns, places)?;
-    let block = read_rows(alloc, &named, reader)?;
     let kinds = kinds_of(alloc, columns)?;
+    let block = read_named(alloc, columns, places, reader)?;
     Ok(block.widened(alloc, &kinds, def.key, places)?)
+}
+
+// The rows in the columns at these places alone.
+fn read_named(
+    alloc: Global,
+    columns: &[ColumnDef],
+    places: &[usize],
+    reader: &mut Reader<&[u8]>,
+) -> Result<Block, BatchFault>
+    requires places { All (λ place. place < length columns.now) places.now }
+    requires reading { IsReading reader.old }
+    ensures value { IsUnlessMemory is_no_memory result (rows_added (map (column_at columns.now) places.now)
+        (no_rows (map (column_at columns.now) places.now)) (records_left reader.old)) }
+    ensures kinds { IfOk result (λ block. block.kinds ≡ map kind_of (map (column_at columns.now) places.now)) }
+{
+    let named = columns_at(alloc, columns, places)?;
+    read_rows(alloc, &named, reader)
 }
 
 // The values of all the reader's records, in the columns that the header names.
@@ -108,13 +142,19 @@ fn read_rows(
         (no_rows (map (λ column. column.now) named.now)) (records_left reader.old)) }
     ensures kinds { IfOk result (λ block. block.kinds ≡ map kind_of (map (λ column. column.now) named.now)) }
 {
-    let kinds = named_kinds(alloc, named)?;
-    let mut block = Block::new(alloc, &kinds, None)?;
+    let mut block = empty_block(alloc, named)?;
     let mut record = ByteRecord::new(alloc);
     while take_record(reader, &mut record)? {
         block = add_record(alloc, named, &record, block)?;
     }
     Ok(block)
+}
+
+fn empty_block(alloc: Global, named: &[&ColumnDef]) -> Result<Block, NoMemory>
+    ensures { IfOk result (λ block. block ≡ no_rows (map (λ column. column.now) named.now)) }
+{
+    let kinds = named_kinds(alloc, named)?;
+    Block::new(alloc, &kinds, None)
 }
 
 // The block with the values of one record more.

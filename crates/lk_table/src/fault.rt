@@ -3,7 +3,7 @@ use std::alloc::{AllocError, AllocFailed};
 
 /// Why a batch is not read, or not loaded into a table. Of several faults the first of L3, L5, L4 is told, and of each
 /// the first in the order of the rows. (lookd)
-#[derive(Debug, Drop)]
+#[derive(Drop)]
 pub enum BatchFault {
     /// A name of the header is no column's or stands twice (row 0), or the cell of a row is no value of the column.
     /// A record of another length than the header has the empty name, and so has a batch without a header. (L3)

@@ -1,16 +1,32 @@
 ghost use Rattle.std.specs.Prelude.{◌≡◌, ◌<◌, ◌==◌, [], IfOk, IfErr, Ok, Err, length, map};
 ghost use Rattle.std.specs.List.{All, position};
+ghost use Rattle.csv.specs.Records.{fields_of};
 ghost use Rattle.lk_val.specs.Memory.{Unless};
 ghost use Rattle.lk_table.specs.Batches.{carried, column_at, or_wrong, place_named, places_of, unless_among};
 ghost use Rattle.lk_table.specs.Faults.{is_no_memory};
 
 use crate::fault::BatchFault;
+use crate::records::fields_in;
+use csv::ByteRecord;
 use lk_types::ColumnDef;
 use lk_val::{NoMemory, Text};
 use std::alloc::Global;
 
-/// The numbers of the columns that a header's names name; or the first name that is no column's or stands twice.
-pub(crate) fn read_places(
+/// The numbers of the columns that a header's fields name; or the first name that is no column's or stands twice.
+pub(crate) fn places_in(
+    alloc: Global,
+    columns: &[ColumnDef],
+    header: &ByteRecord,
+) -> Result<Vec<usize>, BatchFault>
+    ensures ok { IfOk result (λ places. places_of columns.now [] (fields_of header.now) ≡ Ok places.items) }
+    ensures fault { IfErr result (λ fault. Unless (is_no_memory fault)
+        (or_wrong 0 (places_of columns.now [] (fields_of header.now)) ≡ Err fault)) }
+{
+    let names = fields_in(alloc, header)?;
+    read_places(alloc, columns, &names)
+}
+
+fn read_places(
     alloc: Global,
     columns: &[ColumnDef],
     names: &[&[u8]],

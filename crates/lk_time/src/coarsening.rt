@@ -10,7 +10,7 @@ use lk_types::Frame;
 use lk_val::Value;
 
 /// Why a timeframe was not brought to another.
-#[derive(Clone, Copy, Debug, Drop, PartialEq, Eq)]
+#[derive(Clone, Copy, Drop, PartialEq, Eq)]
 pub enum NotHad {
     /// The values of the one timeframe do not determine those of the other. (lookd)
     T1,

@@ -25,7 +25,7 @@ pub fn fanned(x: &Explore, joins: &[u32], part: u32) -> bool
 }
 
 // The views before a join, and which of them are fanned. A set of views has a truth value for each of the first 32.
-#[derive(Clone, Copy, Debug)]
+#[derive(Clone, Copy)]
 struct Views {
     before: [bool; 32],
     fanned: [bool; 32],

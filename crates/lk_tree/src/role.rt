@@ -12,7 +12,7 @@ use lk_val::NoMemory;
 use std::alloc::Global;
 
 // What an expression is, beside one view and others that are marked.
-#[derive(Clone, Copy, Debug)]
+#[derive(Clone, Copy)]
 pub(crate) struct Role {
     // It is the column of the view's enforced key.
     pub(crate) is_key: bool,

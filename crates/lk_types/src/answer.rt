@@ -7,7 +7,7 @@ use std::cmp::Ordering;
 
 /// What a row gives to a measure: a key, or none for the row's place, and a value. `counts` is false
 /// where the row does not pass the measure's filters.
-#[derive(Debug, Drop)]
+#[derive(Drop)]
 pub struct KeyValue {
     pub key: Option<Value>,
     pub value: Value,
@@ -16,7 +16,7 @@ pub struct KeyValue {
 
 /// A row as it is given to the measures: its place among the rows that pass, its group, and what it gives to each
 /// measure.
-#[derive(Debug, Drop)]
+#[derive(Drop)]
 pub struct GivenRow {
     pub place: u64,
     pub group: Items<Value>,
@@ -24,7 +24,7 @@ pub struct GivenRow {
 }
 
 /// A primary key and the value that stands with it. Pairs are ordered by key, and then by value.
-#[derive(Debug, Drop)]
+#[derive(Drop)]
 pub struct Pair {
     pub key: Value,
     pub value: Value,
@@ -72,14 +72,14 @@ impl Ord for Pair {
 }
 
 /// A group with a cell for each measure.
-#[derive(Debug, Drop)]
+#[derive(Drop)]
 pub struct GroupRow {
     pub group: Items<Value>,
     pub cells: Items<Cell>,
 }
 
 /// The answer of a bound query.
-#[derive(Debug, Drop)]
+#[derive(Drop)]
 pub enum Answer {
     /// The measure has two values for the key in one group.
     Duplicate(u32, Value),
@@ -88,7 +88,7 @@ pub enum Answer {
 }
 
 /// The parts from which a measure is put together, for a group and a measure of a rollup.
-#[derive(Debug, Drop)]
+#[derive(Drop)]
 pub struct Partial {
     pub count: u64,
     pub sum: i128,
@@ -99,14 +99,14 @@ pub struct Partial {
 }
 
 /// Which state answers a query, and from what.
-#[derive(Clone, Copy, Debug, PartialEq, Eq)]
+#[derive(Clone, Copy, PartialEq, Eq)]
 pub struct Route {
     pub number: u64,
     pub from: RouteFrom,
 }
 
 /// The current tables, the tables of a datagroup's build, or a rollup.
-#[derive(Clone, Copy, Debug, PartialEq, Eq)]
+#[derive(Clone, Copy, PartialEq, Eq)]
 pub enum RouteFrom {
     Current,
     Build(u32),
@@ -114,7 +114,7 @@ pub enum RouteFrom {
 }
 
 /// A reply to a request: its HTTP status, whether the body is CSV or else JSON, and the body.
-#[derive(Debug, Drop)]
+#[derive(Drop)]
 pub struct Reply {
     pub status: u16,
     pub csv: bool,

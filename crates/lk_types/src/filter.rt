@@ -3,7 +3,7 @@ use lk_val::{Items, Num};
 
 /// A filter on a field. A value passes where it meets some include, or there is none, and no exclude. `relative`
 /// says that some test is a relative date. (Looker, filter expressions)
-#[derive(Debug, Drop)]
+#[derive(Drop)]
 pub struct Filter {
     pub include: Items<Test>,
     pub exclude: Items<Test>,
@@ -11,14 +11,14 @@ pub struct Filter {
 }
 
 /// Days from a first day up to the day after the last, both from 1970-01-01.
-#[derive(Clone, Copy, Debug, PartialEq, Eq)]
+#[derive(Clone, Copy, PartialEq, Eq)]
 pub struct Days {
     pub from: i32,
     pub up_to: i32,
 }
 
 /// Where an interval of numbers ends: below every number, at one, or above every number.
-#[derive(Clone, Copy, Debug, PartialEq, Eq)]
+#[derive(Clone, Copy, PartialEq, Eq)]
 pub enum Edge {
     Lowest,
     At(Num),
@@ -26,14 +26,14 @@ pub enum Edge {
 }
 
 /// An end of an interval. `closed` is its square bracket: the number there belongs to the interval.
-#[derive(Clone, Copy, Debug, PartialEq, Eq)]
+#[derive(Clone, Copy, PartialEq, Eq)]
 pub struct End {
     pub edge: Edge,
     pub closed: bool,
 }
 
 /// A unit of relative dates. (Looker, filter expressions: date)
-#[derive(Clone, Copy, Debug, PartialEq, Eq)]
+#[derive(Clone, Copy, PartialEq, Eq)]
 pub enum Period {
     Day,
     Week,
@@ -43,7 +43,7 @@ pub enum Period {
 }
 
 /// One item of a filter, by its form: two forms that pass the same values are two tests.
-#[derive(Debug, Drop)]
+#[derive(Drop)]
 pub enum Test {
     Null,
     Empty,

@@ -5,7 +5,7 @@ use crate::schema::Kind;
 use lk_val::Items;
 
 /// A set of kinds: whether each is in it.
-#[derive(Clone, Copy, Debug, PartialEq, Eq)]
+#[derive(Clone, Copy, PartialEq, Eq)]
 pub struct KindSet {
     pub text: bool,
     pub number: bool,
@@ -15,7 +15,7 @@ pub struct KindSet {
 }
 
 /// The kinds of the columns of each part of a joined row.
-#[derive(Debug, Drop)]
+#[derive(Drop)]
 pub struct Leaves {
     pub kinds: Items<Items<Kind>>,
 }

@@ -1,4 +1,5 @@
-ghost use Rattle.std.specs.Prelude.{◌≡◌, ◌<◌, ◌^◌, ◌≤ℤ◌, pos, neg_ℤ, IfOk, Some, None, string_bytes};
+ghost use Rattle.std.specs.Prelude.{◌≡◌, ◌<◌, ◌^◌, ◌++◌, ◌≤ℤ◌, pos, neg_ℤ, IfOk, Some, None, codes, string_bytes};
+ghost use Rattle.std.specs.Fmt.{signed_decimal};
 ghost use Rattle.std.specs.List.{position};
 ghost use Rattle.lk_types.specs.Printing.{cell_json, cell_text, value_text, shaped_text, frame_text, tier_text, tier_below, is_bound_above, bound_at, fraction_text, date_text, month_text, quarter_text, year_text, time_text, two_digits, four_digits};
 ghost use Rattle.lk_val.specs.declared.value.Value.TheVariants as value;
@@ -142,7 +143,13 @@ fn print_tier_below(alloc: Global, bounds: &[i64], i: usize) -> Result<Text, NoM
 {
     let from = bound_at(bounds, i - 1);
     let to = bound_at(bounds, i) - 1;
-    Ok(Text::from_string(format!(in alloc; "{from} to {to}")?))
+    Ok(Text::from_string(print_between(alloc, from, to)?))
+}
+
+fn print_between(alloc: Global, from: i128, to: i128) -> Result<String, NoMemory>
+    ensures { IfOk result (λ text. string_bytes text ≡ signed_decimal from ++ codes " to " ++ signed_decimal to) }
+{
+    Ok(format!(in alloc; "{from} to {to}")?)
 }
 
 fn bound_at(bounds: &[i64], i: usize) -> i128
@@ -178,12 +185,16 @@ fn print_fraction(alloc: Global, fraction: &Frac) -> Result<Text, NoMemory>
 {
     let n = fraction.numerator();
     let d = fraction.denominator();
-    let text = if d == 1 {
-        format!(in alloc; "{n}")?
-    } else {
-        format!(in alloc; "{n}/{d}")?
-    };
-    Ok(Text::from_string(text))
+    if d == 1 {
+        return Ok(Text::from_string(format!(in alloc; "{n}")?));
+    }
+    Ok(Text::from_string(print_quotient(alloc, n, d)?))
+}
+
+fn print_quotient(alloc: Global, n: i128, d: i128) -> Result<String, NoMemory>
+    ensures { IfOk result (λ text. string_bytes text ≡ signed_decimal n ++ codes "/" ++ signed_decimal d) }
+{
+    Ok(format!(in alloc; "{n}/{d}")?)
 }
 
 fn print_moment(alloc: Global, moment: i64) -> Result<Text, NoMemory>

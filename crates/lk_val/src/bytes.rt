@@ -9,7 +9,7 @@ use std::cmp::Ordering;
 use std::marker::Model;
 
 /// Bytes that need not be text. Clauses see them as their list; they are compared byte by byte.
-#[derive(Debug, Drop)]
+#[derive(Drop)]
 pub struct Bytes {
     inner: Vec<u8>,
 }

@@ -6,7 +6,7 @@ use crate::value::{Value, cmp_value};
 use std::cmp::Ordering;
 
 /// A cell of an answer: a value, a number of pairs, a sum as a count of 1/10,000, or a fraction.
-#[derive(Debug, Drop)]
+#[derive(Drop)]
 pub enum Cell {
     Value(Value),
     Count(u64),

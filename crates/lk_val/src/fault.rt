@@ -7,7 +7,7 @@ use std::alloc::Global;
 
 /// A fault of a project's files: its code, the file, the place in it, and two names. A part that doesn't apply
 /// is empty, and a place that doesn't apply is 0.
-#[derive(Debug, Drop)]
+#[derive(Drop)]
 pub struct FaultLine {
     pub code: Text,
     pub path: Text,
@@ -17,7 +17,7 @@ pub struct FaultLine {
 }
 
 /// Why a model was not read: its first fault, or want of memory.
-#[derive(Debug, Drop)]
+#[derive(Drop)]
 pub enum ModelFault {
     /// The first fault.
     Fault(FaultLine),

@@ -6,7 +6,7 @@ use std::marker::Model;
 
 /// A list that grows at its end. Clauses see it as the list of its items, so it stands for each `Vec` in a
 /// type that a clause compares with a definition's value.
-#[derive(Debug, Drop)]
+#[derive(Drop)]
 pub struct Items<T> {
     inner: Vec<T>,
 }

@@ -8,11 +8,11 @@ use crate::text::Text;
 use std::alloc::Global;
 
 /// A number of a table: a count of 1/10,000.
-#[derive(Clone, Copy, Debug, PartialEq, Eq, PartialOrd, Ord)]
+#[derive(Clone, Copy, PartialEq, Eq, PartialOrd, Ord)]
 pub struct Num(pub i64);
 
 /// Why a cell does not read as a number. The causes are tested in this order.
-#[derive(Clone, Copy, Debug, PartialEq, Eq)]
+#[derive(Clone, Copy, PartialEq, Eq)]
 pub enum NumFault {
     /// The text is no decimal.
     NotNumber,

@@ -49,7 +49,7 @@ pub fn is_among(text: &Text, texts: &[Text]) -> bool
 }
 
 /// A text in UTF-8. Clauses see it as the list of its bytes; it is compared byte by byte.
-#[derive(Debug, Drop)]
+#[derive(Drop)]
 pub struct Text {
     inner: String,
 }

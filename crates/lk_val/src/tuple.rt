@@ -12,7 +12,7 @@ use std::marker::Model;
 
 /// A tuple of values, as a group has one for its dimensions. Clauses see it as their list; tuples are
 /// ordered by their first difference, so that they can be the keys of a map.
-#[derive(Debug, Drop)]
+#[derive(Drop)]
 pub struct Tuple {
     values: Items<Value>,
 }

@@ -10,7 +10,7 @@ use std::cmp::Ordering;
 
 /// A cell of a table. A day is a number of days and a moment a number of seconds, both from
 /// 1970-01-01 00:00:00 UTC.
-#[derive(Debug, Drop, PartialEq, Eq, PartialOrd, Ord)]
+#[derive(Drop, PartialEq, Eq, PartialOrd, Ord)]
 pub enum Value {
     Null,
     Text(Text),

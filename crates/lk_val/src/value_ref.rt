@@ -10,7 +10,7 @@ use std::alloc::Global;
 use std::cmp::Ordering;
 
 /// A value that is only looked at, where it stands. It takes no memory and is copied freely.
-#[derive(Clone, Copy, Debug)]
+#[derive(Clone, Copy)]
 pub enum ValueRef<'a> {
     Null,
     Text(&'a str),

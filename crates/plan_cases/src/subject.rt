@@ -7,7 +7,7 @@ use lk_val::{Items, NoMemory, Text};
 use std::alloc::Global;
 
 /// What is filtered: a column of a kind, tiers of a number, or a timeframe of a moment.
-#[derive(Clone, Copy, Debug, PartialEq, Eq)]
+#[derive(Clone, Copy, PartialEq, Eq)]
 pub enum Subject {
     Column(Kind),
     Tiers,

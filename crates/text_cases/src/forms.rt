@@ -12,8 +12,8 @@ pub fn judge_form<'a>(alloc: Global, name: &str, text: &[u8]) -> Result<Answer<'
         "none" => Form::nothing(),
         "z to a" => Form::range(b'z', b'a'),
         "< or <= and a digit" => compared_digit(alloc)?,
-        "many a or bc" => many_of(alloc, Form::byte(b'a'), Form::exactly(alloc, b"bc")?)?,
-        "many a or a" => many_of(alloc, Form::byte(b'a'), Form::byte(b'a'))?,
+        "many a or bc" => many_of(alloc, Form::exactly(alloc, b"bc"))?,
+        "many a or a" => many_of(alloc, Ok(Form::byte(b'a')))?,
         "a rule that is missing" => Form::nested(0),
         _ => return Err(CaseFault::NoSuchCase),
     };
@@ -40,22 +40,20 @@ fn answer<'a>(place: Option<usize>) -> Answer<'a> {
 
 // A digit, or rule 0 in brackets.
 fn bracketed(alloc: Global) -> Result<Form, NoMemory> {
-    let closed = Form::seq(alloc, Form::nested(0), Form::byte(b')'))?;
-    let nested = Form::seq(alloc, Form::byte(b'('), closed)?;
-    Form::either(alloc, Form::range(b'0', b'9'), nested)
+    let closed = Form::seq(alloc, Ok(Form::nested(0)), Ok(Form::byte(b')')));
+    let nested = Form::seq(alloc, Ok(Form::byte(b'(')), closed);
+    Form::either(alloc, Ok(Form::range(b'0', b'9')), nested)
 }
 
 // `<` or `<=`, with spaces before it, and a digit.
 fn compared_digit(alloc: Global) -> Result<Form, NoMemory> {
-    let less = Form::word(alloc, b" ", b"<")?;
-    let at_most = Form::word(alloc, b" ", b"<=")?;
-    Form::seq(
-        alloc,
-        Form::either(alloc, less, at_most)?,
-        Form::range(b'0', b'9'),
-    )
+    let less = Form::word(alloc, b" ", b"<");
+    let at_most = Form::word(alloc, b" ", b"<=");
+    let order = Form::either(alloc, less, at_most);
+    Form::seq(alloc, order, Ok(Form::range(b'0', b'9')))
 }
 
-fn many_of(alloc: Global, one: Form, other: Form) -> Result<Form, NoMemory> {
-    Form::many(alloc, Form::either(alloc, one, other)?)
+// Any number of an `a` or the other form.
+fn many_of(alloc: Global, other: Result<Form, NoMemory>) -> Result<Form, NoMemory> {
+    Form::many(alloc, Form::either(alloc, Ok(Form::byte(b'a')), other))
 }

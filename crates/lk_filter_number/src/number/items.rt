@@ -1,7 +1,7 @@
 use lk_val::{Bytes, Items};
 
 /// An end of an interval, as it is written.
-#[derive(Debug, Drop)]
+#[derive(Drop)]
 pub(crate) enum WrittenEnd {
     Number(Bytes),
     Inf,
@@ -9,14 +9,14 @@ pub(crate) enum WrittenEnd {
 }
 
 /// A comparison with a number, as it is written.
-#[derive(Debug, Drop)]
+#[derive(Drop)]
 pub(crate) struct Compared {
     pub(crate) comparison: Order,
     pub(crate) number: Bytes,
 }
 
 /// A comparison that filters of numbers have.
-#[derive(Clone, Copy, Debug, PartialEq, Eq)]
+#[derive(Clone, Copy, PartialEq, Eq)]
 pub(crate) enum Order {
     Less,
     AtMost,
@@ -25,14 +25,14 @@ pub(crate) enum Order {
 }
 
 /// A bracket of an interval: the number at a square one belongs to it.
-#[derive(Clone, Copy, Debug, PartialEq, Eq)]
+#[derive(Clone, Copy, PartialEq, Eq)]
 pub(crate) enum Bracket {
     Square,
     Round,
 }
 
 /// A range of numbers, as it is written.
-#[derive(Debug, Drop)]
+#[derive(Drop)]
 pub(crate) enum NumberRange {
     Is(Bytes),
     From(Bytes),
@@ -43,7 +43,7 @@ pub(crate) enum NumberRange {
 }
 
 /// How a number that is left out is marked: by `<>` or by `!=`.
-#[derive(Clone, Copy, Debug, PartialEq, Eq)]
+#[derive(Clone, Copy, PartialEq, Eq)]
 pub(crate) enum UnlikeSign {
     Angles,
     Exclamation,
@@ -51,7 +51,7 @@ pub(crate) enum UnlikeSign {
 
 /// An item of a filter of numbers: a range or `NULL`, with `NOT` before it where that is true; or a number that is
 /// left out.
-#[derive(Debug, Drop)]
+#[derive(Drop)]
 pub(crate) enum NumberItem {
     Range(bool, NumberRange),
     Null(bool),
@@ -59,21 +59,21 @@ pub(crate) enum NumberItem {
 }
 
 /// What stands between two items: a comma or `OR`.
-#[derive(Clone, Copy, Debug, PartialEq, Eq)]
+#[derive(Clone, Copy, PartialEq, Eq)]
 pub(crate) enum Separator {
     Comma,
     Or,
 }
 
 /// A further item, with what stands before it.
-#[derive(Debug, Drop)]
+#[derive(Drop)]
 pub(crate) struct FurtherItem {
     pub(crate) separator: Separator,
     pub(crate) item: NumberItem,
 }
 
 /// The items of a filter of numbers.
-#[derive(Debug, Drop)]
+#[derive(Drop)]
 pub(crate) struct NumberItems {
     pub(crate) first: NumberItem,
     pub(crate) more: Items<FurtherItem>,

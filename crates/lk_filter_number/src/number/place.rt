@@ -72,65 +72,57 @@ fn judge_number_form(alloc: Global, text: &[u8]) -> Result<Option<usize>, NoMemo
 fn number_form(alloc: Global) -> Result<Form, NoMemory>
     ensures { IfOk result (λ form. form ≡ number_form) }
 {
-    let item = item_form(alloc)?;
+    let item = item_form(alloc);
     let between = Form::either(
         alloc,
-        Form::word(alloc, b" ", b",")?,
-        Form::word(alloc, b" ", b"or")?,
-    )?;
-    let further = Form::seq(alloc, between, item_form(alloc)?)?;
+        Form::word(alloc, b" ", b","),
+        Form::word(alloc, b" ", b"or"),
+    );
+    let further = Form::seq(alloc, between, item_form(alloc));
     listed(alloc, b" ", item, further)
 }
 
 fn item_form(alloc: Global) -> Result<Form, NoMemory>
     ensures { IfOk result (λ form. form ≡ item_form) }
 {
-    let not = Form::optional(alloc, Form::word(alloc, b" ", b"not")?)?;
-    let tested = Form::either(alloc, range_form(alloc)?, Form::word(alloc, b" ", b"null")?)?;
+    let not = Form::optional(alloc, Form::word(alloc, b" ", b"not"));
+    let tested = Form::either(alloc, range_form(alloc), Form::word(alloc, b" ", b"null"));
     let differs = Form::either(
         alloc,
-        Form::word(alloc, b" ", b"<>")?,
-        Form::word(alloc, b" ", b"!=")?,
-    )?;
-    let differs = Form::seq(alloc, differs, written_number(alloc)?)?;
-    Form::either(alloc, Form::seq(alloc, not, tested)?, differs)
+        Form::word(alloc, b" ", b"<>"),
+        Form::word(alloc, b" ", b"!="),
+    );
+    let differs = Form::seq(alloc, differs, written_number(alloc));
+    Form::either(alloc, Form::seq(alloc, not, tested), differs)
 }
 
 fn range_form(alloc: Global) -> Result<Form, NoMemory>
     ensures { IfOk result (λ form. form ≡ range_form) }
 {
-    let others = Form::either(alloc, comparisons_form(alloc)?, interval_form(alloc)?)?;
-    let others = Form::either(alloc, up_to_form(alloc)?, others)?;
-    Form::either(alloc, from_form(alloc)?, others)
+    let others = Form::either(alloc, comparisons_form(alloc), interval_form(alloc));
+    let others = Form::either(alloc, up_to_form(alloc), others);
+    Form::either(alloc, from_form(alloc), others)
 }
 
 fn from_form(alloc: Global) -> Result<Form, NoMemory>
     ensures { IfOk result (λ form. form ≡ from_form) }
 {
-    let high = Form::optional(alloc, written_number(alloc)?)?;
-    let to = Form::seq(alloc, Form::word(alloc, b" ", b"to")?, high)?;
-    Form::seq(alloc, written_number(alloc)?, Form::optional(alloc, to)?)
+    let high = Form::optional(alloc, written_number(alloc));
+    let to = Form::seq(alloc, Form::word(alloc, b" ", b"to"), high);
+    Form::seq(alloc, written_number(alloc), Form::optional(alloc, to))
 }
 
 fn up_to_form(alloc: Global) -> Result<Form, NoMemory>
     ensures { IfOk result (λ form. form ≡ up_to_form) }
 {
-    Form::seq(
-        alloc,
-        Form::word(alloc, b" ", b"to")?,
-        written_number(alloc)?,
-    )
+    Form::seq(alloc, Form::word(alloc, b" ", b"to"), written_number(alloc))
 }
 
 fn comparisons_form(alloc: Global) -> Result<Form, NoMemory>
     ensures { IfOk result (λ form. form ≡ comparisons_form) }
 {
-    let further = Form::seq(
-        alloc,
-        Form::word(alloc, b" ", b"and")?,
-        compared_form(alloc)?,
-    )?;
-    Form::seq(alloc, compared_form(alloc)?, Form::many(alloc, further)?)
+    let further = Form::seq(alloc, Form::word(alloc, b" ", b"and"), compared_form(alloc));
+    Form::seq(alloc, compared_form(alloc), Form::many(alloc, further))
 }
 
 fn compared_form(alloc: Global) -> Result<Form, NoMemory>
@@ -138,12 +130,12 @@ fn compared_form(alloc: Global) -> Result<Form, NoMemory>
 {
     let strict = Form::either(
         alloc,
-        Form::word(alloc, b" ", b"<")?,
-        Form::word(alloc, b" ", b">")?,
-    )?;
-    let order = Form::either(alloc, Form::word(alloc, b" ", b">=")?, strict)?;
-    let order = Form::either(alloc, Form::word(alloc, b" ", b"<=")?, order)?;
-    Form::seq(alloc, order, written_number(alloc)?)
+        Form::word(alloc, b" ", b"<"),
+        Form::word(alloc, b" ", b">"),
+    );
+    let order = Form::either(alloc, Form::word(alloc, b" ", b">="), strict);
+    let order = Form::either(alloc, Form::word(alloc, b" ", b"<="), order);
+    Form::seq(alloc, order, written_number(alloc))
 }
 
 fn interval_form(alloc: Global) -> Result<Form, NoMemory>
@@ -151,17 +143,17 @@ fn interval_form(alloc: Global) -> Result<Form, NoMemory>
 {
     let close = Form::either(
         alloc,
-        Form::word(alloc, b" ", b"]")?,
-        Form::word(alloc, b" ", b")")?,
-    )?;
-    let high = Form::seq(alloc, end_form(alloc)?, close)?;
-    let high = Form::seq(alloc, Form::word(alloc, b" ", b",")?, high)?;
-    let low = Form::seq(alloc, end_form(alloc)?, high)?;
+        Form::word(alloc, b" ", b"]"),
+        Form::word(alloc, b" ", b")"),
+    );
+    let high = Form::seq(alloc, end_form(alloc), close);
+    let high = Form::seq(alloc, Form::word(alloc, b" ", b","), high);
+    let low = Form::seq(alloc, end_form(alloc), high);
     let open = Form::either(
         alloc,
-        Form::word(alloc, b" ", b"[")?,
-        Form::word(alloc, b" ", b"(")?,
-    )?;
+        Form::word(alloc, b" ", b"["),
+        Form::word(alloc, b" ", b"("),
+    );
     Form::seq(alloc, open, low)
 }
 
@@ -170,14 +162,14 @@ fn end_form(alloc: Global) -> Result<Form, NoMemory>
 {
     let infinite = Form::either(
         alloc,
-        Form::word(alloc, b" ", b"inf")?,
-        Form::word(alloc, b" ", b"-inf")?,
-    )?;
-    Form::either(alloc, written_number(alloc)?, infinite)
+        Form::word(alloc, b" ", b"inf"),
+        Form::word(alloc, b" ", b"-inf"),
+    );
+    Form::either(alloc, written_number(alloc), infinite)
 }
 
 fn written_number(alloc: Global) -> Result<Form, NoMemory>
     ensures { IfOk result (λ form. form ≡ written_number) }
 {
-    Form::free(alloc, b" ", number(alloc)?)
+    Form::free(alloc, b" ", number(alloc))
 }

@@ -1,7 +1,7 @@
 use lk_grammar::Word;
 
 /// The words of filters of numbers.
-#[derive(Clone, Copy, Debug, PartialEq, Eq)]
+#[derive(Clone, Copy, PartialEq, Eq)]
 pub(crate) enum NumberWord {
     AtMost,
     AtLeast,

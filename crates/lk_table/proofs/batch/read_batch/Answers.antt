@@ -1,31 +1,10 @@
-use Rattle.std.proofs.Common.{ap, ◌∙◌, [], map, subst, sym, Bor, List, ℕ}
-use Rattle.lk_types.specs.declared.schema.ColumnDef.{ColumnDef}
-use Rattle.lk_csv.specs.Reading.{records_left}
-use Rattle.lk_table.specs.Batches.{places_of, rows_behind}
-use Rattle.lk_table.specs.Contents.{Content}
-use Rattle.lk_table.specs.Widening.{IsOnce}
-use Rattle.lk_table.proofs.FitLaws.{places_once, places_within}
-use Rattle.lk_table.proofs.ReadLaws.{keys_kept, shape_from}
+use Rattle.std.proofs.Common.{subst, List}
+use Rattle.lk_val.specs.Memory.{IsUnlessMemory}
+use Rattle.lk_table.specs.Batches.{Fields, batch_from}
+use Rattle.lk_table.specs.Faults.{is_no_memory}
 use Rattle.lk_table.proofs.batch.read_batch.Goals as goal
 
-pub read_behind-requires-clause-places : goal.read_behind-requires-clause-places
-read_behind-requires-clause-places c =
-    let columns = c.args.def.now.columns in
-    let names = map (λ (name : Bor (List ℕ)). name.now) c.deref.result.now in
-    let told = ap (λ (all : List ColumnDef). places_of all [] names) (sym c.as_slice.ensures) ∙ c.in_ok-places.ensures.ok in
-    rw c.deref-2.ensures.value (places_within columns names c.in_ok-places.places.items told)
-
-pub read_behind-requires-clause-once : goal.read_behind-requires-clause-once
-read_behind-requires-clause-once c =
-    let columns = c.args.def.now.columns in
-    let names = map (λ (name : Bor (List ℕ)). name.now) c.deref.result.now in
-    let told = ap (λ (all : List ColumnDef). places_of all [] names) (sym c.as_slice.ensures) ∙ c.in_ok-places.ensures.ok in
-    subst IsOnce (sym c.deref-2.ensures.value) (places_once columns names c.in_ok-places.places.items told)
-
-pub returns-clause-shape : goal.returns-clause-shape
-returns-clause-shape c =
-    let records = records_left c.take_record.new.reader in
-    let shape = shape_from c.args.def.now (rows_behind c.args.def.now.columns records c.deref-2.result.now) c.in_ok-block.block c.in_ok-block.ensures in
-    let kept = keys_kept c.in_ok-block.block c.in_ok-with_keys.field-0 c.in_ok-with_keys.ensures in
-    let same = c.in_ok-new.ensures.ok ∙ c.shrunk.ensures ∙ kept in
-    (ap (λ (content : Content). content.kinds) same ∙ shape.0, ap (λ (content : Content). content.key) same ∙ shape.1)
+pub returns-clause-value : goal.returns-clause-value
+returns-clause-value c =
+    subst (λ (records : List Fields). IsUnlessMemory is_no_memory c.read_headed.result (batch_from c.args.def.now records))
+    c.reader_over-reader.ensures.records c.read_headed.ensures.value

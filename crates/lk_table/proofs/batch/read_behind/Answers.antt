@@ -1,4 +1,4 @@
-use Rattle.std.proofs.Common.{◌∙◌, ap, refl, subst, sym, arith, length, map, Bor, List}
+use Rattle.std.proofs.Common.{◌∙◌, ap, refl, subst, sym, arith, length, map, List}
 use Rattle.std.specs.Prelude.{Result, Err}
 use Rattle.std.proofs.lemmas.List.{length-map}
 use Rattle.std.proofs.lemmas.Result.{err_from_is_err_and}
@@ -19,9 +19,8 @@ pub widened-requires : goal.widened-requires
 widened-requires c =
     let columns = c.args.def.now.columns in
     let places = c.args.places.now in
-    let told = ap (map (λ (column : Bor ColumnDef). column.now)) c.deref.ensures.value ∙ c.in_ok-named.ensures
-    ∙ ap (λ (all : List ColumnDef). map (column_at all) places) c.as_slice-columns.ensures in
-    let kinds = c.deref-2.ensures.value ∙ c.in_ok-kinds.ensures ∙ ap (map kind_of) c.as_slice-columns.ensures in
+    let told = ap (λ (all : List ColumnDef). map (column_at all) places) c.as_slice-columns.ensures in
+    let kinds = c.deref.ensures.value ∙ c.in_ok-kinds.ensures ∙ ap (map kind_of) c.as_slice-columns.ensures in
     let width = ap (λ (all : List Kind). length all) kinds ∙ length-map columns kind_of in
     record {
       kinds = c.in_ok-block.ensures.kinds
@@ -35,19 +34,17 @@ widened-requires c =
 pub returns : goal.returns
 returns c =
     let places = c.args.places.now in
-    let named = map (λ (column : Bor ColumnDef). column.now) c.deref.result.now in
-    let told = ap (map (λ (column : Bor ColumnDef). column.now)) c.deref.ensures.value ∙ c.in_ok-named.ensures
-    ∙ ap (λ (all : List ColumnDef). map (column_at all) places) c.as_slice-columns.ensures in
-    let kinds = c.deref-2.ensures.value ∙ c.in_ok-kinds.ensures ∙ ap (map kind_of) c.as_slice-columns.ensures in
-    behind_ok c.args.def.now places named c.deref-2.result.now (records_left c.args.reader.now) told kinds
+    let named = map (column_at c.as_slice-columns.result.now) places in
+    let told = ap (λ (all : List ColumnDef). map (column_at all) places) c.as_slice-columns.ensures in
+    let kinds = c.deref.ensures.value ∙ c.in_ok-kinds.ensures ∙ ap (map kind_of) c.as_slice-columns.ensures in
+    behind_ok c.args.def.now places named c.deref.result.now (records_left c.args.reader.now) told kinds
     c.in_ok-block.block c.in_ok-widened.field-0 c.in_ok-block.ensures.value c.in_ok-widened.ensures
 
 pub returns-in_err-block : goal.returns-in_err-block
 returns-in_err-block c =
     let places = c.args.places.now in
-    let named = map (λ (column : Bor ColumnDef). column.now) c.deref.result.now in
-    let told = ap (map (λ (column : Bor ColumnDef). column.now)) c.deref.ensures.value ∙ c.in_ok-named.ensures
-    ∙ ap (λ (all : List ColumnDef). map (column_at all) places) c.as_slice-columns.ensures in
+    let named = map (column_at c.as_slice-columns.result.now) places in
+    let told = ap (λ (all : List ColumnDef). map (column_at all) places) c.as_slice-columns.ensures in
     let failed = err_from_is_err_and c.from_residual-in_err-block.result c.from_residual-in_err-block.ensures.1 in
     subst (λ (r : Result Content BatchFault). IsUnlessMemory is_no_memory r (content_from c.args.def.now (rows_behind c.args.def.now.columns (records_left c.args.reader.now) places)))
     (sym (failed.1 ∙ ap Err failed.2))
