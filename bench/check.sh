@@ -1,13 +1,25 @@
 #!/bin/sh
-# Times `lookd check` on projects of several shapes, each written to a folder that goes when the timing ends:
+# Times `lookd check` on projects of several shapes, each written to a folder that goes when the timing ends
+# (bench/check_projects.awk writes them). Four are at a limit of the language:
 #   wide N       one explore over one view of N fields
 #   chain N      N fields, each but the last referring to the next
 #   cycle N      the same, and the last refers to the first
-#   nodes N      one field whose code has N + 1 nodes, for an even N; 10,000 are allowed
-#   store N      N views of 24 fields in the manner of an online store, with an explore of up to eight joins on every fifth
+#   nodes N      one field whose code has N nodes; 10,000 are allowed
+# The others are in the manner of projects that people write:
+#   store N      N views of 24 fields, as of an online store, with an explore of up to eight joins on every fifth
+#   star N       four views of facts that share N dimensions, with an explore of up to 30 joins on each
+#   snowflake N  a view of facts with N branches of four views, each of which names the next; N is at most 7
+#   small N      N views of five fields, each in a file of its own, and N / 2 explores of two joins in files
+#   broad N      N views of 300 fields, and an explore of two joins on every fourth
+#   layers N     N views in chains of ten, of which each extends the one before and is refined twice; explores that extend
+#   joins N      N explores of 31 joins over 32 views
+#   derived N    N views, and a derived table over the explore of each, which is joined into it; ten are persisted
+#   totals N     16 explores over N views, with twelve aggregate tables and four datagroups
+#   steps N      N derived tables, each made of the explore over the one before
+#   times N      N views of six groups of eleven timeframes and six tiers, with fields and filters over them
 #   company      200 explores of ten joins over 500 views of 40 fields, with filters, timeframes and references
-# With each line stand the time, the most memory of the process, and what it printed. A measurement, not a test. It runs
-# the program that `./lookd` builds.
+# With each line stand the time, the most memory of the process, and what it printed, which is `ok` of all but `cycle`. A
+# measurement, not a test. It runs the program that `./lookd` builds.
 top=$(cd "$(dirname "$0")/.." && pwd) || exit 1
 [ -n "$LOOKD" ] || "$top/lookd" help >/dev/null
 program=${LOOKD:-$top/crates/lookd/out/lookd}
@@ -15,74 +27,13 @@ work=$(mktemp -d) || exit 1
 trap 'rm -rf "$work"' EXIT
 
 write_project() {
-    mkdir -p "$work/p"
+    mkdir -p "$work/p/views" "$work/p/explores" "$work/p/layers" "$work/p/refinements"
     printf 'user,attribute,value\nann,region,EU\n' >"$work/p/users.csv"
-    awk -v shape="$1" -v size="$2" -v folder="$work/p" '
-    BEGIN {
-        model = folder "/m.model.lkml"; schema = folder "/schema.csv"
-        print "table,column,kind,key" >schema
-        if (shape == "wide") wide(size)
-        if (shape == "chain" || shape == "cycle") chain(size, shape == "cycle")
-        if (shape == "nodes") nodes(size)
-        if (shape == "store") views(size, 24, int(size / 5), 8)
-        if (shape == "company") views(500, 40, 200, 10)
-    }
-    # A table with a key and some columns.
-    function table(name, columns,    i) {
-        print name ",id,number,yes" >schema
-        print name ",at,moment," >schema
-        for (i = 0; i < columns; i++) print name ",c" i "," (i % 3 == 2 ? "text" : "number") "," >schema
-    }
-    function wide(n,    i) {
-        table("v", 60)
-        print "explore: v {}\nview: v {\n  dimension: id { primary_key: yes type: number }" >model
-        for (i = 1; i < n; i++) print "  dimension: f" i " { type: number sql: ${TABLE}.c" (i % 20) * 3 " + " i " ;; }" >model
-        print "}" >model
-    }
-    function chain(n, turns,    i) {
-        table("v", 3)
-        print "explore: v {}\nview: v {" >model
-        for (i = 0; i < n - 1; i++) print "  dimension: f" i " { type: number sql: ${f" i + 1 "} + 1 ;; }" >model
-        print "  dimension: f" n - 1 " { type: number sql: " (turns ? "${f0}" : "${TABLE}.c0") " ;; }\n}" >model
-    }
-    function nodes(n,    i) {
-        table("v", 3)
-        printf "explore: v {}\nview: v {\n  dimension: f { type: number sql: ${TABLE}.c0" >model
-        for (i = 0; i < n / 2; i++) printf " + ${TABLE}.c1" >model
-        print " ;; }\n}" >model
-    }
-    # Views of so many fields over a few tables; explores of so many joins.
-    function views(n, fields, explores, joins,    v, i, x, j, b) {
-        for (v = 0; v < 50; v++) table("t" v, 30)
-        for (v = 0; v < n; v++) view(v, fields)
-        for (x = 0; x < explores; x++) {
-            b = (x * 2) % n
-            print "explore: e" x " {\n  from: v" b >model
-            print "  always_filter: { filters: [e" x ".f0: \">5\"] }" >model
-            print "  access_filter: { field: e" x ".f2 user_attribute: region }" >model
-            for (j = 1; j <= joins && j < n; j++)
-                print "  join: j" j " { from: v" (b + j * 7) % n " relationship: many_to_one sql_on: ${e" x ".f1} = ${j" j ".id} ;; }" >model
-            print "}" >model
-        }
-    }
-    function view(v, fields,    i, column) {
-        print "view: v" v " {\n  sql_table_name: shop.t" v % 50 " ;;" >model
-        print "  dimension: id { primary_key: yes type: number }" >model
-        print "  dimension_group: at { type: time timeframes: [raw, date, week, month] sql: ${TABLE}.at ;; }" >model
-        for (i = 0; i < fields - 8; i++) {
-            column = "${TABLE}.c" i % 30
-            if (i % 3 == 2) print "  dimension: f" i " { sql: " column " ;; }" >model
-            else if (i % 3 == 1) print "  dimension: f" i " { type: number sql: ${f" i - 1 "} * 2 + " column " ;; }" >model
-            else print "  dimension: f" i " { type: number sql: " column " ;; }" >model
-        }
-        print "  measure: count { type: count }" >model
-        print "  measure: total { type: sum sql: ${f0} ;; filters: [f2: \"open,-closed\"] }" >model
-        print "  measure: recent { type: count filters: [at_date: \"7 days\"] }" >model
-        print "  measure: mean { type: number sql: ${total} / ${count} ;; }\n}" >model
-    }'
+    awk -v shape="$1" -v size="$2" -v folder="$work/p" -f "$top/bench/check_projects.awk"
 }
 
-for line in 'wide 5000' 'chain 1000' 'cycle 1000' 'nodes 9998' 'store 20' 'store 40' 'store 60' 'company 0'; do
+for line in 'wide 5000' 'chain 1000' 'cycle 1000' 'nodes 10000' 'store 20' 'store 40' 'store 60' 'star 40' 'snowflake 7' \
+    'small 60' 'broad 20' 'layers 40' 'joins 10' 'derived 25' 'totals 40' 'steps 200' 'times 20' 'company 0'; do
     rm -rf "$work/p"
     write_project ${line% *} ${line#* }
     told=$(/usr/bin/time -o "$work/cost" -f '%e s, %M KB' "$program" check "$work/p")

@@ -15,23 +15,16 @@ fn word(alloc: Global, small: &[u8]) -> Result<Form, NoMemory> {
 }
 
 fn digits(alloc: Global) -> Result<Form, NoMemory> {
-    Form::seq(
-        alloc,
-        Form::range(b'0', b'9'),
-        Form::many(alloc, Form::range(b'0', b'9'))?,
-    )
+    let more = Form::many(alloc, Ok(Form::range(b'0', b'9')));
+    Form::seq(alloc, Ok(Form::range(b'0', b'9')), more)
 }
 
 fn number(alloc: Global) -> Result<Form, NoMemory> {
-    let sign = Form::optional(alloc, Form::byte(b'-'))?;
-    let places = Form::seq(alloc, Form::byte(b'.'), digits(alloc)?)?;
+    let sign = Form::optional(alloc, Ok(Form::byte(b'-')))?;
+    let places = Form::seq(alloc, Ok(Form::byte(b'.')), digits(alloc));
     let places = Form::optional(alloc, places)?;
-    let digits = digits(alloc)?;
-    Form::free(
-        alloc,
-        b" ",
-        Form::sequence(alloc, vec![in alloc; sign, digits, places]?)?,
-    )
+    let parts = vec![in alloc; sign, digits(alloc)?, places]?;
+    Form::free(alloc, b" ", Form::sequence(alloc, parts))
 }
 
 fn comparison(alloc: Global) -> Result<Form, NoMemory> {
@@ -41,12 +34,12 @@ fn comparison(alloc: Global) -> Result<Form, NoMemory> {
         word(alloc, b"<")?,
         word(alloc, b">")?,
     ]?;
-    Form::seq(alloc, Form::choice(alloc, words)?, number(alloc)?)
+    Form::seq(alloc, Form::choice(alloc, words), number(alloc))
 }
 
 fn comparisons(alloc: Global) -> Result<Form, NoMemory> {
-    let more = Form::seq(alloc, word(alloc, b"and")?, comparison(alloc)?)?;
-    Form::seq(alloc, comparison(alloc)?, Form::many(alloc, more)?)
+    let more = Form::seq(alloc, word(alloc, b"and"), comparison(alloc));
+    Form::seq(alloc, comparison(alloc), Form::many(alloc, more))
 }
 
 fn end(alloc: Global) -> Result<Form, NoMemory> {
@@ -56,8 +49,8 @@ fn end(alloc: Global) -> Result<Form, NoMemory> {
 }
 
 fn interval(alloc: Global) -> Result<Form, NoMemory> {
-    let open = Form::either(alloc, word(alloc, b"[")?, word(alloc, b"(")?)?;
-    let close = Form::either(alloc, word(alloc, b"]")?, word(alloc, b")")?)?;
+    let open = Form::either(alloc, word(alloc, b"["), word(alloc, b"("))?;
+    let close = Form::either(alloc, word(alloc, b"]"), word(alloc, b")"))?;
     let comma = word(alloc, b",")?;
     Form::sequence(
         alloc,
@@ -66,13 +59,13 @@ fn interval(alloc: Global) -> Result<Form, NoMemory> {
 }
 
 fn from_number(alloc: Global) -> Result<Form, NoMemory> {
-    let upto = Form::optional(alloc, number(alloc)?)?;
-    let to = Form::seq(alloc, word(alloc, b"to")?, upto)?;
-    Form::seq(alloc, number(alloc)?, Form::optional(alloc, to)?)
+    let upto = Form::optional(alloc, number(alloc));
+    let to = Form::seq(alloc, word(alloc, b"to"), upto);
+    Form::seq(alloc, number(alloc), Form::optional(alloc, to))
 }
 
 fn range(alloc: Global) -> Result<Form, NoMemory> {
-    let to_number = Form::seq(alloc, word(alloc, b"to")?, number(alloc)?)?;
+    let to_number = Form::seq(alloc, word(alloc, b"to"), number(alloc))?;
     let ranges = vec![in alloc;
         from_number(alloc)?,
         comparisons(alloc)?,
@@ -83,18 +76,22 @@ fn range(alloc: Global) -> Result<Form, NoMemory> {
 }
 
 fn item(alloc: Global) -> Result<Form, NoMemory> {
-    let tested = Form::either(alloc, range(alloc)?, word(alloc, b"null")?)?;
-    let tested = Form::seq(alloc, Form::optional(alloc, word(alloc, b"not")?)?, tested)?;
-    let differs = Form::either(alloc, word(alloc, b"<>")?, word(alloc, b"!=")?)?;
-    Form::either(alloc, tested, Form::seq(alloc, differs, number(alloc)?)?)
+    let not = Form::optional(alloc, word(alloc, b"not"));
+    let tested = Form::either(alloc, range(alloc), word(alloc, b"null"));
+    let differs = Form::either(alloc, word(alloc, b"<>"), word(alloc, b"!="));
+    let differs = Form::seq(alloc, differs, number(alloc));
+    Form::either(alloc, Form::seq(alloc, not, tested), differs)
 }
 
 pub fn numbers(alloc: Global) -> Result<Form, NoMemory> {
-    let comma = Form::either(alloc, word(alloc, b",")?, word(alloc, b"or")?)?;
-    let more = Form::many(alloc, Form::seq(alloc, comma, item(alloc)?)?)?;
+    let comma = Form::either(alloc, word(alloc, b","), word(alloc, b"or"));
+    let more = Form::many(alloc, Form::seq(alloc, comma, item(alloc)))?;
     let items = vec![in alloc; item(alloc)?, more, Form::spaces(alloc, b" ")?]?;
-    let items = Form::sequence(alloc, items)?;
-    Form::either(alloc, Form::spaces(alloc, b" ")?, items)
+    Form::either(
+        alloc,
+        Form::spaces(alloc, b" "),
+        Form::sequence(alloc, items),
+    )
 }
 END
 cat >"$work/crates/timing/src/main.rt" <<'END'

@@ -1,6 +1,8 @@
 #!/bin/sh
 # Times an accumulator of a count, an average and a sum over keys on 1,000,000 rows in 1, 1,000 and 100,000 groups, and
-# plain Rust that does the same with ordered maps of groups and of keys. The keys come ascending twice, or scattered.
+# plain Rust that does the same with ordered maps of groups and of keys. The keys come ascending twice, or scattered, or
+# ascending as texts of eight bytes, which both write anew for each row. Where the accumulator is not finished, its memory
+# is seen without the answer's.
 # With each line stands the most memory that its process took. A measurement, not a test: it builds a program in a
 # folder of its own, which proves it first.
 crates='lk_val lk_postfix lk_types lk_semantics lk_agg'
@@ -38,34 +40,86 @@ fn group_of(key: u32, groups: u32) -> u32 {
     place.wrapping_mul(7_919).checked_rem(groups).unwrap_or(0)
 }
 
+#[derive(Clone, Copy)]
+enum Keys {
+    Ascending,
+    Scattered,
+    Texts,
+}
+
+fn keys_of(word: &str) -> Keys {
+    if word == "scattered" {
+        Keys::Scattered
+    } else if word == "texts" {
+        Keys::Texts
+    } else {
+        Keys::Ascending
+    }
+}
+
 // Two rows have each key.
-fn key_of(row: u32, scattered: bool) -> u32 {
+fn key_of(row: u32, keys: Keys) -> u32 {
     let key = row % KEYS;
-    if scattered { key.wrapping_mul(7_919) % KEYS } else { key }
+    match keys {
+        Keys::Scattered => key.wrapping_mul(7_919) % KEYS,
+        Keys::Ascending | Keys::Texts => key,
+    }
 }
 
 // The value is the same at both rows of a key.
-fn add_row(acc: &mut Acc, groups: u32, scattered: bool, row: u32) -> Result<(), NoMemory> {
-    let key = key_of(row, scattered);
-    let group = [number(group_of(key, groups))];
+fn give(
+    acc: &mut Acc,
+    groups: u32,
+    number_of_key: u32,
+    key: ValueRef<'_>,
+    row: u32,
+) -> Result<(), NoMemory> {
+    let group = [number(group_of(number_of_key, groups))];
     let cells = [
         KeyRef { key: None, value: ValueRef::Null, counts: true },
         KeyRef { key: None, value: number(row % 1_000), counts: true },
-        KeyRef { key: Some(number(key)), value: number(key % 1_000), counts: true },
+        KeyRef { key: Some(key), value: number(number_of_key % 1_000), counts: true },
     ];
     acc.add_refs(&group, &cells, u64::from(row))
 }
 
-fn add_rows(acc: &mut Acc, groups: u32, scattered: bool) -> Result<(), NoMemory> {
+fn add_row(
+    alloc: Global,
+    acc: &mut Acc,
+    groups: u32,
+    keys: Keys,
+    row: u32,
+) -> Result<(), NoMemory> {
+    let key = key_of(row, keys);
+    match keys {
+        Keys::Ascending | Keys::Scattered => give(acc, groups, key, number(key), row),
+        Keys::Texts => {
+            let eight_digits = key.wrapping_add(10_000_000);
+            let text = format!(in alloc; "{eight_digits}")?;
+            give(acc, groups, key, ValueRef::Text(text.as_str()), row)
+        }
+    }
+}
+
+fn add_rows(alloc: Global, acc: &mut Acc, groups: u32, keys: Keys) -> Result<(), NoMemory> {
     for row in 0..ROWS {
-        add_row(acc, groups, scattered, row)?;
+        add_row(alloc, acc, groups, keys, row)?;
     }
     Ok(())
 }
 
-fn groups_of(alloc: Global, groups: u32, scattered: bool) -> Result<usize, AggFault> {
+// How many groups come of the rows; none where they are not finished.
+fn groups_of(
+    alloc: Global,
+    groups: u32,
+    keys: Keys,
+    is_finished: bool,
+) -> Result<usize, AggFault> {
     let mut acc = accumulator(alloc)?;
-    add_rows(&mut acc, groups, scattered)?;
+    add_rows(alloc, &mut acc, groups, keys)?;
+    if !is_finished {
+        return Ok(0);
+    }
     Ok(acc.finish()?.len())
 }
 
@@ -73,9 +127,13 @@ fn main(rt: HostRuntime) -> io::Result<()> {
     for line in rt.lines(rt.alloc()) {
         let line = line?;
         let (groups, keys) = line.split_once(' ').unwrap_or((line.as_str(), "ascending"));
+        let (keys, is_finished) = match keys.split_once(' ') {
+            Some((keys, _)) => (keys, false),
+            None => (keys, true),
+        };
         let groups = groups.parse::<u32>().unwrap_or(1).max(1);
         let begun = Instant::now(&rt)?;
-        let found = groups_of(rt.alloc(), groups, keys == "scattered");
+        let found = groups_of(rt.alloc(), groups, keys_of(keys), is_finished);
         let took = begun.elapsed(&rt)?.as_millis();
         match found {
             Ok(count) => println!(&rt; "lk_agg: {count} groups, {keys} keys, {took} ms")?,
@@ -105,12 +163,18 @@ fn number(count: u32) -> Value {
     Value::Num(i64::from(count) * 10_000)
 }
 
+#[derive(PartialEq, Eq, PartialOrd, Ord)]
+enum Key {
+    Num(i64),
+    Text(String),
+}
+
 #[derive(Default)]
 struct Group {
     count: u64,
     sum: i128,
     values: u64,
-    keys: BTreeMap<i64, Value>,
+    keys: BTreeMap<Key, Value>,
     conflict: bool,
 }
 
@@ -119,7 +183,7 @@ fn main() {
     std::io::stdin().read_line(&mut line).unwrap();
     let (groups, keys) = line.trim().split_once(' ').unwrap();
     let groups: u32 = groups.parse().unwrap();
-    let scattered = keys == "scattered";
+    let (scattered, texts) = (keys == "scattered", keys == "texts");
     let begun = Instant::now();
     let mut all: BTreeMap<Vec<Value>, Group> = BTreeMap::new();
     for row in 0..ROWS {
@@ -133,7 +197,8 @@ fn main() {
             group.values += 1;
         }
         let value = number(key % 1_000);
-        if *group.keys.entry(i64::from(key) * 10_000).or_insert(value) != value {
+        let key = if texts { Key::Text((key + 10_000_000).to_string()) } else { Key::Num(i64::from(key) * 10_000) };
+        if *group.keys.entry(key).or_insert(value) != value {
             group.conflict = true;
         }
     }
@@ -149,9 +214,12 @@ END
 (cd "$work" && rustc -O -o plain plain.rs) || exit 1
 (cd "$work/crates/timing" && touch stdin && rt run) >"$work/build.log" 2>&1 || { tail -n 40 "$work/build.log"; exit 1; }
 for groups in 1 1000 100000; do
-    for keys in ascending scattered; do
+    for keys in ascending scattered texts; do
         for program in "$work/crates/timing/out/timing" "$work/plain"; do
             echo "$groups $keys" | /usr/bin/time -f '  at most %M KB of memory' "$program"
         done
     done
+done
+for keys in ascending scattered texts; do
+    echo "100000 $keys unfinished" | /usr/bin/time -f '  at most %M KB of memory' "$work/crates/timing/out/timing"
 done
