@@ -1,5 +1,5 @@
 -- Keys one after the other: which have stood, and which stand twice.
-use Rattle.std.proofs.Common.{◌≡◌, ◌<◌, ◌≤◌, ◌+◌, ◌++◌, ◌∷◌, [], ℕ, Bool, true, false, List, length, take, refl, sym, ap, ap₂, arith, ◌∙◌, cond, nat_lt}
+use Rattle.std.proofs.Common.{◌≡◌, ◌≤◌, ◌+◌, ◌++◌, ◌∷◌, [], Bool, true, false, List, refl, sym, ap, ap₂, arith, ◌∙◌, cond, nat_lt}
 use Rattle.std.specs.List.{count_by, list_any}
 use Rattle.std.specs.Ordering.{is_eq}
 use Rattle.std.specs.declared.cmp.Ordering.{Ordering}
@@ -8,17 +8,13 @@ use Rattle.std.specs.Cmp.{eq_by_cmp_equiv}
 use Rattle.std.proofs.lemmas.List.Folds.{list_any-append}
 use Rattle.std.specs.Prelude.{◌||◌}
 use Rattle.std.proofs.lemmas.Bool.{false≢true, le-ltb, lt-ltb}
-use Rattle.std.proofs.lemmas.List.{get_or-map, length-map, take_more}
 use Rattle.std.proofs.lemmas.List.Sums.{sum_by-cons, sum_by_push}
 use Rattle.lk_val.specs.Sets.{has}
 use Rattle.lk_val.specs.Values.{is_same, value_cmp}
 use Rattle.lk_val.specs.ValueOrder.{derived, values_ordered}
 use Rattle.lk_val.specs.contracts.value.ValueOrd.TheImpl.{cmp-value}
 use Rattle.lk_val.specs.declared.value.Value.{Value}
-use Rattle.lk_val.specs.declared.value.Value.TheVariants as value
-use Rattle.lk_types.specs.Tables.{Rows}
-use Rattle.lk_table.specs.Contents.{cell_at, keys_at, row_at}
-use Rattle.lk_table.specs.KeySets.{HasRepeated, HasThose}
+use Rattle.lk_table.specs.KeySets.{HasRepeated}
 use Rattle.lk_table.specs.Loads.{is_repeated}
 
 pub has_derived : (k : Value) (keys : List Value) → list_any (λ q. is_eq (cmp-value.it k q)) keys ≡ has value_cmp k keys
@@ -86,13 +82,6 @@ module _ (keys : List Value) (key : Value) where
   other_push k unlike = ap (nat_lt 1) (count_push k key keys ∙ rw unlike (omega arith))
 
   -- one that has stood
-  pub those_stay : (index : List Value) → has value_cmp key keys ≡ true → HasThose index keys → HasThose index (keys ++ key ∷ [])
-  those_stay index stood those k = those k ∙ sym (has_push k key keys ∙ by (is_same k key) refl)
-    where
-      by : (t : Bool) → is_same k key ≡ t → (t || has value_cmp k keys) ≡ has value_cmp k keys
-      by true e = sym (ap (λ (v : Value). has value_cmp v keys) (same_values k key e) ∙ stood)
-      by false e = refl
-
   pub repeated_grow : (index more : List Value) → has value_cmp key keys ≡ true
       → ((k : Value) → has value_cmp k more ≡ (is_same key k || has value_cmp k index)) → HasRepeated index keys → HasRepeated more (keys ++ key ∷ [])
   repeated_grow index more stood grown repeated k = grown k ∙ by (is_same key k) refl
@@ -107,15 +96,6 @@ module _ (keys : List Value) (key : Value) where
       by false e = repeated k ∙ sym (other_push k (same_swapped key k e))
 
   -- one that has not
-  pub those_grow : (index more : List Value)
-      → ((k : Value) → has value_cmp k more ≡ (is_same key k || has value_cmp k index)) → HasThose index keys → HasThose more (keys ++ key ∷ [])
-  those_grow index more grown those k =
-      grown k ∙ ap₂ (λ (s t : Bool). s || t) (swap (is_same key k) refl) (those k) ∙ sym (has_push k key keys)
-    where
-      swap : (t : Bool) → is_same key k ≡ t → is_same key k ≡ is_same k key
-      swap true e = ap (is_same key) (sym (same_values key k e)) ∙ same_self key ∙ sym (ap (is_same k) (same_values key k e) ∙ same_self k)
-      swap false e = e ∙ sym (same_swapped key k e)
-
   pub repeated_stay : (index : List Value) → has value_cmp key keys ≡ false → HasRepeated index keys → HasRepeated index (keys ++ key ∷ [])
   repeated_stay index new repeated k = repeated k ∙ by (is_same k key) refl
     where
@@ -127,14 +107,6 @@ module _ (keys : List Value) (key : Value) where
           le-ltb 1 (count_by (is_same k) keys) (omega (arith, none))
           ∙ sym (le-ltb 1 (count_by (is_same k) (keys ++ key ∷ [])) (omega (arith, none, count)))
       by false e = sym (other_push k e)
-
--- ---- the keys of rows
-
-pub key_more : (column : ℕ) (rows : Rows) (i : ℕ) → i < length rows
-    → take (i + 1) (keys_at column rows) ≡ take i (keys_at column rows) ++ cell_at (row_at rows i) column ∷ []
-key_more column rows i within =
-    take_more (keys_at column rows) i value.Null (omega (arith, within, length-map rows (λ row. cell_at row column)))
-    ∙ ap (λ (v : Value). take i (keys_at column rows) ++ v ∷ []) (get_or-map (λ row. cell_at row column) rows i [] value.Null within)
 
 -- what a set has after an insertion
 pub inserted : (k key : Value) (after before : List Value)

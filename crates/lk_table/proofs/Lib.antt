@@ -7,6 +7,7 @@ pub mod ReadLaws
 pub mod WidenLaws
 pub mod FitLaws
 pub mod KeyLaws
+pub mod KeyOrderLaws
 pub mod VersionLaws
 pub mod TextLaws
 pub mod BackLaws

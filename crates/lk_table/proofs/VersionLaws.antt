@@ -125,3 +125,11 @@ loaded_by content rows (Some key) = refl
 pub loaded_emptied : (content batch : Content) → loaded (emptied content) batch false ≡ loaded content batch true
 loaded_emptied content batch =
     loaded_by content batch.rows (first_conflict (keys_of content.key []) (keys_of content.key batch.rows))
+
+-- ---- a load behind the rows
+
+pub loaded_behind : (content part batch : Content) (parts : List Content) (found : Option Value) → part ≡ batch → batch.key ≡ content.key
+    → rows_of parts ≡ content.rows → found ≡ first_conflict (keys_of part.key (rows_of parts)) (keys_of part.key part.rows)
+    → unless_conflict found content (content.rows ++ part.rows) ≡ loaded content batch false
+loaded_behind content part batch parts found part_is key_is rows_are is =
+    rw (is, part_is, key_is, rows_are) refl

@@ -9,6 +9,7 @@ use Rattle.lk_types.specs.declared.schema.Kind.{Kind}
 use Rattle.lk_types.specs.declared.schema.Kind.TheVariants as kind
 use Rattle.lk_region.specs.Regions.{text_at}
 use Rattle.lk_region.specs.declared.mark.Mark.{Mark}
+use Rattle.lk_table.specs.declared.builder.BlockBuilder.{BlockBuilder}
 use Rattle.lk_table.specs.declared.column.Column.{Column}
 use Rattle.lk_table.specs.declared.column.Column.TheVariants as column
 use Rattle.lk_table.specs.Contents.{Content, cell_at, text_bytes, text_length}
@@ -103,3 +104,17 @@ pub record IsHeld (texts : List (List ℕ)) (columns : List Column) (count text 
   pub marked : All (IsMarked (length texts)) columns
   pub utf8 : AreText texts
   pub counted : text ≡ text_bytes (rows_in count (map (values_in texts) columns))
+
+-- ---- rows that are being added
+
+-- what a builder holds; it knows of no key column
+abbrev pub built : BlockBuilder → Content
+built rows = record {
+  kinds = map kind_in rows.columns.items;
+  key = None;
+  rows = rows_in rows.count (map (values_in rows.region) rows.columns.items);
+}
+
+-- what a builder's columns have between two rows
+abbrev pub IsBuilt : BlockBuilder → Type 0
+IsBuilt rows = IsHeld rows.region rows.columns.items rows.count rows.text

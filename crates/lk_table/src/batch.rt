@@ -1,9 +1,10 @@
-ghost use Rattle.std.specs.Prelude.{◌≡◌, ◌+◌, ◌<◌, ◌^◌, IfOk, IfSome, length, map};
+ghost use Rattle.std.specs.Prelude.{◌≡◌, ◌+◌, ◌<◌, ◌^◌, Err, IfErr, IfOk, IfSome, Ok, OnOk, length, map};
 ghost use Rattle.std.specs.List.{All, position};
 ghost use Rattle.csv.specs.Records.{fields_of};
 ghost use Rattle.lk_csv.specs.Reading.{IsReading, records_left};
-ghost use Rattle.lk_val.specs.Memory.{IsUnlessMemory};
+ghost use Rattle.lk_val.specs.Memory.{IsUnlessMemory, Unless};
 ghost use Rattle.lk_table.specs.Contents.{kind_of, lacks_key, row_at};
+ghost use Rattle.lk_table.specs.Columns.{IsBuilt, built};
 ghost use Rattle.lk_table.specs.Batches.{batch_from, batch_of, column_at, content_from, rows_behind, with_keys};
 ghost use Rattle.lk_table.specs.Reading.{no_rows, record_added, rows_added};
 ghost use Rattle.lk_table.specs.Faults.{is_no_memory};
@@ -11,6 +12,7 @@ ghost use Rattle.lk_table.specs.Versions.{IsShaped};
 ghost use Rattle.lk_table.specs.Widening.{IsOnce};
 
 use crate::block::Block;
+use crate::builder::BlockBuilder;
 use crate::fault::BatchFault;
 use crate::header::{columns_at, places_in};
 use crate::parse::read_values;
@@ -142,37 +144,42 @@ fn read_rows(
         (no_rows (map (λ column. column.now) named.now)) (records_left reader.old)) }
     ensures kinds { IfOk result (λ block. block.kinds ≡ map kind_of (map (λ column. column.now) named.now)) }
 {
-    let mut block = empty_block(alloc, named)?;
+    let mut rows = empty_rows(alloc, named)?;
     let mut record = ByteRecord::new(alloc);
     while take_record(reader, &mut record)? {
-        block = add_record(alloc, named, &record, block)?;
+        add_record(alloc, named, &record, &mut rows)?;
     }
-    Ok(block)
+    Ok(Block::built(rows, None))
 }
 
-fn empty_block(alloc: Global, named: &[&ColumnDef]) -> Result<Block, NoMemory>
-    ensures { IfOk result (λ block. block ≡ no_rows (map (λ column. column.now) named.now)) }
+fn empty_rows(alloc: Global, named: &[&ColumnDef]) -> Result<BlockBuilder, NoMemory>
+    ensures held { IfOk result IsBuilt }
+    ensures rows { IfOk result (λ rows. built rows ≡ no_rows (map (λ column. column.now) named.now)) }
 {
     let kinds = named_kinds(alloc, named)?;
-    Block::new(alloc, &kinds, None)
+    BlockBuilder::new(alloc, &kinds)
 }
 
-// The block with the values of one record more.
+// Adds the values of a record to the rows.
 fn add_record(
     alloc: Global,
     named: &[&ColumnDef],
     csv_record: &ByteRecord,
-    block: Block,
-) -> Result<Block, BatchFault>
-    requires { block.kinds ≡ map kind_of (map (λ column. column.now) named.now) }
-    ensures { IsUnlessMemory is_no_memory result
-        (record_added (map (λ column. column.now) named.now) block (fields_of csv_record.now)) }
+    rows: &mut BlockBuilder,
+) -> Result<(), BatchFault>
+    requires held { IsBuilt rows.old }
+    requires kinds { (built rows.old).kinds ≡ map kind_of (map (λ column. column.now) named.now) }
+    ensures held { OnOk result (IsBuilt rows.new) }
+    ensures rows { OnOk result (Ok (built rows.new)
+        ≡ record_added (map (λ column. column.now) named.now) (built rows.old) (fields_of csv_record.now)) }
+    ensures fault { IfErr result (λ fault. Unless (is_no_memory fault) (Err fault
+        ≡ record_added (map (λ column. column.now) named.now) (built rows.old) (fields_of csv_record.now))) }
 {
-    let Some(row) = block.len().checked_add(1) else {
+    let Some(row) = rows.len().checked_add(1) else {
         return Err(BatchFault::NoMemory);
     };
     let values = read_values(alloc, row, named, csv_record)?;
-    Ok(block.with_row(&values)?)
+    Ok(rows.push_row(&values)?)
 }
 
 // The kinds of the columns that the header names.

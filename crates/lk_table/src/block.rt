@@ -1,12 +1,13 @@
-ghost use Rattle.std.specs.Prelude.{◌≡◌, ◌<◌, ◌++◌, ◌∷◌, [], true, IfOk, IfSome, OnOk, length, map};
+ghost use Rattle.std.specs.Prelude.{◌≡◌, ◌<◌, true, IfOk, IfSome, length, map};
 ghost use Rattle.std.specs.List.{All};
 ghost use Rattle.lk_val.specs.ValueRefs.{value_of_ref};
-ghost use Rattle.lk_table.specs.Contents.{cell_at, row_at, text_bytes, text_length};
+ghost use Rattle.lk_table.specs.Contents.{cell_at, row_at, text_bytes};
 ghost use Rattle.lk_table.specs.Batches.{sources_of};
-ghost use Rattle.lk_table.specs.Columns.{AreText, IsMarked, are_of_kinds, kind_in, lengths_added, pushed, values_in, with_row};
+ghost use Rattle.lk_table.specs.Columns.{IsBuilt, are_of_kinds, built};
 ghost use Rattle.lk_table.specs.Widening.{IsOnce, column_from, kind_at_place, left_from, wide_from, widened};
 
-use crate::cells::{cell_in, push_cell};
+use crate::builder::BlockBuilder;
+use crate::cells::cell_in;
 use crate::column::Column;
 use crate::header::source_of;
 use lk_region::Region;
@@ -44,47 +45,24 @@ impl Model for Block {
 }
 
 impl Block {
-    /// No rows of columns of these kinds.
-    pub(crate) fn new(alloc: Global, kinds: &[Kind], key: Option<u32>) -> Result<Block, NoMemory>
-        ensures { IfOk result (λ block. block ≡ record { kinds = kinds.now; key = key; rows = [] }) }
+    /// The rows of a builder, with this key column.
+    pub(crate) fn built(rows: BlockBuilder, key: Option<u32>) -> Block
+        requires { IsBuilt rows }
+        ensures { result ≡ record { kinds = (built rows).kinds; key = key; rows = (built rows).rows } }
     {
-        let mut columns = Vec::with_capacity(alloc, kinds.len())?;
-        for kind in kinds {
-            columns.push(Column::nulls(alloc, *kind, 0))?;
-        }
-        Ok(Block {
-            region: Region::new(alloc),
+        let BlockBuilder {
+            region,
             columns,
-            key,
-            count: 0,
-            text: 0,
-        })
-    }
-
-    /// The block with one row more: a cell for each column, of its kind.
-    pub(crate) fn with_row(self, cells: &[ValueRef<'_>]) -> Result<Block, NoMemory>
-        requires { are_of_kinds self.kinds (map value_of_ref cells.now) ≡ true }
-        ensures { IfOk result (λ block. block ≡ with_row self (map value_of_ref cells.now)) }
-    {
-        let Block {
-            mut region,
-            mut columns,
-            key,
             count,
             text,
-        } = self;
-        let Some(count) = count.checked_add(1) else {
-            return Err(NoMemory);
-        };
-        let text = add_lengths(text, cells)?;
-        push_cells(&mut region, &mut columns, cells)?;
-        Ok(Block {
+        } = rows;
+        Block {
             region,
             columns,
             key,
             count,
             text,
-        })
+        }
     }
 
     /// The block in columns of these kinds: its own stand at the places, and each other column is null.
@@ -230,48 +208,5 @@ fn shrink_all(columns: &mut [Column])
 {
     for column in columns.iter_mut() {
         column.shrink();
-    }
-}
-
-// Adds a cell to each column, and their texts to the region.
-fn push_cells(
-    region: &mut Region,
-    columns: &mut Vec<Column>,
-    cells: &[ValueRef<'_>],
-) -> Result<(), NoMemory>
-    requires kinds { are_of_kinds (map kind_in columns.old.items) (map value_of_ref cells.now) ≡ true }
-    requires marked { All (IsMarked (length region.old)) columns.old.items }
-    requires texts { AreText region.old }
-    ensures values { OnOk result (map (values_in region.new) columns.new.items
-        ≡ pushed (map value_of_ref cells.now) (map (values_in region.old) columns.old.items)) }
-    ensures kinds { OnOk result (map kind_in columns.new.items ≡ map kind_in columns.old.items) }
-    ensures marked { OnOk result (All (IsMarked (length region.new)) columns.new.items) }
-    ensures texts { OnOk result (AreText region.new) }
-{
-    for i in 0..cells.len() {
-        push_cell(region, &mut columns[i], cells[i])?;
-    }
-    Ok(())
-}
-
-// The number of bytes, and those of the texts among some cells.
-fn add_lengths(mut text: u64, cells: &[ValueRef<'_>]) -> Result<u64, NoMemory>
-    ensures { IfOk result (λ sum. sum ≡ lengths_added text (map value_of_ref cells.now)) }
-{
-    for cell in cells {
-        match text.checked_add(text_length(*cell)) {
-            Some(sum) => text = sum,
-            None => return Err(NoMemory),
-        }
-    }
-    Ok(text)
-}
-
-fn text_length(cell: ValueRef<'_>) -> u64
-    ensures { result ≡ text_length (value_of_ref cell.entry) }
-{
-    match cell {
-        ValueRef::Text(text) => text.len() as u64,
-        _ => 0,
     }
 }

@@ -4,6 +4,7 @@
 mod amount;
 mod batch;
 mod block;
+mod builder;
 mod cells;
 mod column;
 mod counts;

@@ -1,22 +1,24 @@
-ghost use Rattle.std.specs.Prelude.{◌≡◌, ◌||◌, IfOk, Some, false};
+ghost use Rattle.std.specs.Prelude.{◌≡◌, ◌||◌, IfOk, OnOk, Some, false};
 ghost use Rattle.std.specs.Arc.{arc_value};
 ghost use Rattle.std.specs.List.{All, list_any};
 ghost use Rattle.lk_val.specs.Memory.{IsUnlessMemory};
 ghost use Rattle.lk_val.specs.Sets.{has};
+ghost use Rattle.lk_val.specs.ValueRefs.{value_of_ref};
 ghost use Rattle.lk_val.specs.Values.{value_cmp};
+ghost use Rattle.lk_table.specs.Columns.{IsBuilt, built};
 ghost use Rattle.lk_table.specs.Contents.{keys_at, keys_of};
-ghost use Rattle.lk_table.specs.KeySets.{HasRepeated};
 ghost use Rattle.lk_table.specs.Loads.{first_conflict, loaded};
 ghost use Rattle.lk_table.specs.Versions.{followed, rows_of, IsShaped};
 ghost use Rattle.lk_table.specs.Faults.{is_no_memory};
 
 use crate::batch::Batch;
 use crate::block::Block;
+use crate::builder::BlockBuilder;
 use crate::fault::BatchFault;
-use crate::keys::{BlockKeys, Keys, keys_in};
+use crate::keys::RepeatedKeys;
 use crate::part::Part;
 use crate::version::TableVersion;
-use lk_val::{NoMemory, Value};
+use lk_val::{NoMemory, Value, ValueRef};
 use std::alloc::Global;
 use std::sync::Arc;
 
@@ -46,64 +48,62 @@ fn append(alloc: Global, t: &TableVersion, block: &Arc<Block>) -> Result<TableVe
     ensures value { IsUnlessMemory is_no_memory result (loaded t.now (arc_value block.now) false) }
     ensures shape { IfOk result (λ version. IsShaped t.now.kinds t.now.key version) }
 {
-    let BlockKeys { all, again } = keys_in(alloc, &**block)?;
-    if let Some(key) = first_conflict(alloc, &again, &t.parts, &**block)? {
-        return Err(BatchFault::L4(key));
+    let part = Part::new(alloc, block)?;
+    match first_conflict(alloc, &t.parts, &part)? {
+        Some(key) => Err(BatchFault::L4(key)),
+        None => Ok(t.with_part(alloc, part)?),
     }
-    let part = Part::new(alloc, block, all)?;
-    Ok(t.with_part(alloc, part)?)
 }
 
-// The first key of a block that stands twice in it or in a part, given those that stand twice in it.
-fn first_conflict(
-    alloc: Global,
-    again: &Keys,
-    parts: &[Part],
-    block: &Block,
-) -> Result<Option<Value>, NoMemory>
-    requires again { HasRepeated again.now (keys_of block.now.key block.now.rows) }
-    requires parts { All (λ part. part.key ≡ block.now.key) parts.now }
+// The first key of a part that stands twice in it or in one of others.
+fn first_conflict(alloc: Global, parts: &[Part], part: &Part) -> Result<Option<Value>, NoMemory>
+    requires { All (λ held. held.key ≡ part.now.key) parts.now }
     ensures { IfOk result (λ found. found
-        ≡ first_conflict (keys_of block.now.key (rows_of parts.now)) (keys_of block.now.key block.now.rows)) }
+        ≡ first_conflict (keys_of part.now.key (rows_of parts.now)) (keys_of part.now.key part.now.rows)) }
 {
-    match block.key() {
-        Some(column) => conflict_at(alloc, again, parts, block, column),
+    match part.block().key() {
+        Some(column) => conflict_at(alloc, parts, part, column),
         None => Ok(None),
     }
 }
 
 fn conflict_at(
     alloc: Global,
-    again: &Keys,
     parts: &[Part],
-    block: &Block,
+    part: &Part,
     column: u32,
 ) -> Result<Option<Value>, NoMemory>
-    requires again { HasRepeated again.now (keys_at column block.now.rows) }
-    requires parts { All (λ part. part.key ≡ Some column) parts.now }
+    requires key { part.now.key ≡ Some column }
+    requires parts { All (λ held. held.key ≡ Some column) parts.now }
     ensures { IfOk result (λ found. found
-        ≡ first_conflict (keys_at column (rows_of parts.now)) (keys_at column block.now.rows)) }
+        ≡ first_conflict (keys_at column (rows_of parts.now)) (keys_at column part.now.rows)) }
 {
-    for row in 0..block.len() {
-        let key = block.cell(row, column).to_value(alloc)?;
-        if stands_again(again, parts, &key) {
-            return Ok(Some(key));
+    let again = part.repeated_keys(alloc, column)?;
+    for row in 0..part.len() {
+        let key = part.cell(row, column);
+        if stands_again(alloc, &again, parts, key)? {
+            return Ok(Some(key.to_value(alloc)?));
         }
     }
     Ok(None)
 }
 
 // Whether the key is one of those that stand twice, or a row of the parts has it.
-fn stands_again(again: &Keys, parts: &[Part], key: &Value) -> bool
-    ensures { result ≡ (has value_cmp key.now again.now
-        || list_any (λ part. has value_cmp key.now (keys_of part.key part.rows)) parts.now) }
+fn stands_again(
+    alloc: Global,
+    again: &RepeatedKeys,
+    parts: &[Part],
+    key: ValueRef<'_>,
+) -> Result<bool, NoMemory>
+    ensures { IfOk result (λ stands. stands ≡ (has value_cmp (value_of_ref key.entry) again.now
+        || list_any (λ part. has value_cmp (value_of_ref key.entry) (keys_of part.key part.rows)) parts.now)) }
 {
-    again.has(key) || is_held(parts, key)
+    Ok(again.has(alloc, key)? || is_held(parts, key))
 }
 
 // Whether a row of the parts has the key.
-fn is_held(parts: &[Part], key: &Value) -> bool
-    ensures { result ≡ list_any (λ part. has value_cmp key.now (keys_of part.key part.rows)) parts.now }
+fn is_held(parts: &[Part], key: ValueRef<'_>) -> bool
+    ensures { result ≡ list_any (λ part. has value_cmp (value_of_ref key.entry) (keys_of part.key part.rows)) parts.now }
 {
     parts.iter().any(|part| part.has_key(key))
 }
@@ -114,8 +114,7 @@ pub fn compact(alloc: Global, t: &TableVersion) -> Result<TableVersion, NoMemory
 {
     let emptied = t.emptied(alloc)?;
     let block = Arc::new(alloc, joined(alloc, t)?.shrunk())?;
-    let BlockKeys { all, again: _ } = keys_in(alloc, &*block)?;
-    let part = Part::new(alloc, &block, all)?;
+    let part = Part::new(alloc, &block)?;
     emptied.with_part(alloc, part)
 }
 
@@ -123,29 +122,34 @@ pub fn compact(alloc: Global, t: &TableVersion) -> Result<TableVersion, NoMemory
 fn joined(alloc: Global, t: &TableVersion) -> Result<Block, NoMemory>
     ensures { IfOk result (λ block. block ≡ t.now) }
 {
-    let block = Block::new(alloc, &t.kinds, t.key)?;
-    add_parts(alloc, block, &t.parts)
+    let mut rows = BlockBuilder::new(alloc, &t.kinds)?;
+    add_parts(alloc, &mut rows, &t.parts)?;
+    Ok(Block::built(rows, t.key))
 }
 
-// The block with the rows of the parts behind its own.
-fn add_parts(alloc: Global, mut block: Block, parts: &[Part]) -> Result<Block, NoMemory>
-    requires { All (λ part. part.kinds ≡ block.kinds) parts.now }
-    ensures { IfOk result (λ more. more ≡ followed block (rows_of parts.now)) }
+// Adds the rows of the parts.
+fn add_parts(alloc: Global, rows: &mut BlockBuilder, parts: &[Part]) -> Result<(), NoMemory>
+    requires held { IsBuilt rows.old }
+    requires kinds { All (λ part. part.kinds ≡ (built rows.old).kinds) parts.now }
+    ensures held { OnOk result (IsBuilt rows.new) }
+    ensures rows { OnOk result (built rows.new ≡ followed (built rows.old) (rows_of parts.now)) }
 {
     for part in parts {
-        block = add_rows(alloc, block, part.block())?;
+        add_rows(alloc, rows, part.block())?;
     }
-    Ok(block)
+    Ok(())
 }
 
-// The block with the rows of another behind its own.
-fn add_rows(alloc: Global, mut block: Block, other: &Block) -> Result<Block, NoMemory>
-    requires { block.kinds ≡ other.now.kinds }
-    ensures { IfOk result (λ more. more ≡ followed block other.now.rows) }
+// Adds the rows of a block.
+fn add_rows(alloc: Global, rows: &mut BlockBuilder, block: &Block) -> Result<(), NoMemory>
+    requires held { IsBuilt rows.old }
+    requires kinds { (built rows.old).kinds ≡ block.now.kinds }
+    ensures held { OnOk result (IsBuilt rows.new) }
+    ensures rows { OnOk result (built rows.new ≡ followed (built rows.old) block.now.rows) }
 {
-    for row in 0..other.len() {
-        let cells = other.row(alloc, row)?;
-        block = block.with_row(&cells)?;
+    for row in 0..block.len() {
+        let cells = block.row(alloc, row)?;
+        rows.push_row(&cells)?;
     }
-    Ok(block)
+    Ok(())
 }

@@ -2,6 +2,7 @@ use Rattle.std.proofs.Common.{◌∙◌, ap, map, Bor}
 use Rattle.csv.specs.Records.{fields_of}
 use Rattle.lk_csv.specs.Reading.{before, records_left}
 use Rattle.lk_types.specs.declared.schema.ColumnDef.{ColumnDef}
+use Rattle.lk_table.specs.Columns.{built}
 use Rattle.lk_table.proofs.ReadLaws.{added_kinds, added_step}
 use Rattle.lk_table.proofs.batch.read_rows.Goals as goal
 
@@ -12,9 +13,12 @@ loop-record-preserved c =
     let left = records_left c.take_record.new.reader in
     let took = c.in_ok-take_record.ensures in
     let all = took.value ∙ ap (λ found. before found fields left) c.if-branch.true in
+    let now = built c.loop-record.rows in
+    let more = built c.add_record.new.rows in
     record {
       reading = took.reading c.if-branch.true;
-      kinds = added_kinds c.loop-record.block c.in_ok-block-2.block _ _ c.in_ok-block-2.ensures ∙ c.loop-record.invariant.kinds;
-      rest = added_step named c.loop-record.block c.in_ok-block-2.block fields left (records_left c.loop-record.reader) all c.in_ok-block-2.ensures
+      held = c.in_ok-add_record.ensures.held;
+      kinds = added_kinds now more _ _ c.in_ok-add_record.ensures.rows ∙ c.loop-record.invariant.kinds;
+      rest = added_step named now more fields left (records_left c.loop-record.reader) all c.in_ok-add_record.ensures.rows
           ∙ c.loop-record.invariant.rest;
     }

@@ -8,4 +8,4 @@ use Rattle.lk_table.proofs.load.conflict_at.Given as goal
 
 abbrev pub invariant-loop-row : goal.invariant-loop-row
 invariant-loop-row l = (k : ℕ) → k < l.row
-    → is_conflict (keys_at l.column (rows_of l.parts)) (keys_at l.column l.block.rows) (slice_index_or (keys_at l.column l.block.rows) k value.Null) ≡ false
+    → is_conflict (keys_at l.column (rows_of l.parts)) (keys_at l.column l.part.rows) (slice_index_or (keys_at l.column l.part.rows) k value.Null) ≡ false

@@ -4,7 +4,7 @@ use Rattle.lk_val.specs.Sets.{has}
 use Rattle.lk_val.specs.Values.{is_same, value_cmp}
 use Rattle.lk_val.specs.declared.value.Value.{Value}
 use Rattle.lk_table.proofs.KeyLaws.{inserted}
-use Rattle.lk_table.proofs.keys.Keys.insert.Goals as goal
+use Rattle.lk_table.proofs.keys.RepeatedKeys.insert.Goals as goal
 
 pub returns : goal.returns
 returns c = λ k.

@@ -8,7 +8,7 @@ use Rattle.lk_table.specs.declared.column.Column.{Column}
 use Rattle.lk_table.specs.Columns.{kind_in}
 use Rattle.lk_table.proofs.RowLaws.{kinds_long}
 use Rattle.lk_table.proofs.BlockLaws.{kind_there, kinds_step, marked_step, values_step}
-use Rattle.lk_table.proofs.block.push_cells.Goals as goal
+use Rattle.lk_table.proofs.builder.push_cells.Goals as goal
 
 pub index_mut-requires : goal.index_mut-requires
 index_mut-requires c =

@@ -1,7 +1,7 @@
 use Rattle.std.proofs.Common.{◌≡◌, [], map, take}
 use Rattle.std.specs.List.{All}
 use Rattle.lk_table.specs.Columns.{IsMarked, kind_in, values_in}
-use Rattle.lk_table.proofs.block.Block.new.Given as goal
+use Rattle.lk_table.proofs.builder.BlockBuilder.new.Given as goal
 
 abbrev pub invariant-loop-kind : goal.invariant-loop-kind
 invariant-loop-kind l = record {

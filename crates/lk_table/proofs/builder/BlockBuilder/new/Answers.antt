@@ -2,7 +2,7 @@ use Rattle.std.proofs.Common.{◌∙◌, ◌++◌, ◌∷◌, [], ap, arith}
 use Rattle.lk_table.specs.declared.column.Column.{Column}
 use Rattle.lk_table.proofs.BlockLaws.{nothing_held}
 use Rattle.lk_table.proofs.WidenLaws.{none_empty, none_kinds, none_marked}
-use Rattle.lk_table.proofs.block.Block.new.Goals as goal
+use Rattle.lk_table.proofs.builder.BlockBuilder.new.Goals as goal
 
 pub loop-kind-preserved : goal.loop-kind-preserved
 loop-kind-preserved c =
@@ -18,6 +18,6 @@ loop-kind-preserved c =
       marked = none_marked kinds i columns more (omega arith) is kept.marked;
     }
 
-pub invariant_of-result : goal.invariant_of-result
-invariant_of-result c =
+pub returns-clause-held : goal.returns-clause-held
+returns-clause-held c =
     nothing_held c.new.result c.loop-kind.columns.items c.new.ensures c.loop-kind.invariant.empty c.loop-kind.invariant.marked

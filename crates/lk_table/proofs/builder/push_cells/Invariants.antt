@@ -2,7 +2,7 @@ use Rattle.std.proofs.Common.{◌≡◌, length, map, take}
 use Rattle.std.specs.List.{All}
 use Rattle.lk_val.specs.ValueRefs.{value_of_ref}
 use Rattle.lk_table.specs.Columns.{AreText, IsMarked, kind_in, pushed, values_in}
-use Rattle.lk_table.proofs.block.push_cells.Given as goal
+use Rattle.lk_table.proofs.builder.push_cells.Given as goal
 
 abbrev pub invariant-loop-i : goal.invariant-loop-i
 invariant-loop-i l = record {
