@@ -78,6 +78,20 @@ fn first_of_datagroup(
     ensures { IfOk result (λ first. first ≡ soonest (datagroup_findings schema.now name.now items.now)) }
 {
     let mut findings = Findings::new();
+    find_in_datagroup(alloc, schema, name, items, &mut findings)?;
+    Ok(findings.first)
+}
+
+fn find_in_datagroup(
+    alloc: Global,
+    schema: &Schema,
+    name: &str,
+    items: &[Item],
+    findings: &mut Findings,
+) -> Result<(), NoMemory>
+    ensures { IfOk result (λ _. findings.new.first
+        ≡ fold sooner findings.old.first (datagroup_findings schema.now name.now items.now)) }
+{
     find_unknown(
         alloc,
         Order::Object,
@@ -85,13 +99,12 @@ fn first_of_datagroup(
         name,
         None,
         items,
-        &mut findings,
+        findings,
     )?;
     let is_wrong = watches_nothing(alloc, schema, items)?;
-    add_wrong_at(alloc, name, "sql_trigger", is_wrong, &mut findings)?;
+    add_wrong_at(alloc, name, "sql_trigger", is_wrong, findings)?;
     let is_wrong = has_no_interval(items);
-    add_wrong_at(alloc, name, "interval_trigger", is_wrong, &mut findings)?;
-    Ok(findings.first)
+    add_wrong_at(alloc, name, "interval_trigger", is_wrong, findings)
 }
 
 // Adds that a parameter of the datagroup has a value outside the profile, where the test says so.

@@ -71,20 +71,30 @@ fn first_of_always(alloc: Global, explore: &str, value: &Node) -> Result<Option<
     ensures { IfOk result (λ first. first ≡ soonest (always_findings explore.now value.now)) }
 {
     let mut findings = Findings::new();
+    find_in_always(alloc, explore, value, &mut findings)?;
+    Ok(findings.first)
+}
+
+fn find_in_always(
+    alloc: Global,
+    explore: &str,
+    value: &Node,
+    findings: &mut Findings,
+) -> Result<(), NoMemory>
+    ensures { IfOk result (λ _. findings.new.first
+        ≡ fold sooner findings.old.first (always_findings explore.now value.now)) }
+{
     let Node::Block(None, inner) = value else {
-        add_wrong_at(alloc, explore, "always_filter", true, &mut findings)?;
-        return Ok(findings.first);
+        return add_wrong_at(alloc, explore, "always_filter", true, findings);
     };
-    let items = parameters_of(inner);
     find_in_part(
         alloc,
         Owner::AlwaysFilter,
         explore,
         "always_filter",
-        items,
-        &mut findings,
-    )?;
-    Ok(findings.first)
+        parameters_of(inner),
+        findings,
+    )
 }
 
 fn read_access(alloc: Global, explore: &str, value: &Node) -> Result<AccessFilter, NoMemory>

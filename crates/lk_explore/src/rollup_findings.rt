@@ -20,18 +20,24 @@ pub(crate) fn first_of_rollup(
     ensures { IfOk result (λ first. first ≡ soonest (rollup_findings table.now items.now)) }
 {
     let mut findings = Findings::new();
-    find_in_items(alloc, table, items, &mut findings)?;
-    let lacks_query = is_missing("query", items);
-    add_wrong_at(alloc, table, "query", lacks_query, &mut findings)?;
-    let lacks_trigger = is_missing("materialization", items);
-    add_wrong_at(
-        alloc,
-        table,
-        "materialization",
-        lacks_trigger,
-        &mut findings,
-    )?;
+    find_in_rollup(alloc, table, items, &mut findings)?;
     Ok(findings.first)
+}
+
+fn find_in_rollup(
+    alloc: Global,
+    table: &str,
+    items: &[Item],
+    findings: &mut Findings,
+) -> Result<(), NoMemory>
+    ensures { IfOk result (λ _. findings.new.first
+        ≡ fold sooner findings.old.first (rollup_findings table.now items.now)) }
+{
+    find_in_items(alloc, table, items, findings)?;
+    let lacks_query = is_missing("query", items);
+    add_wrong_at(alloc, table, "query", lacks_query, findings)?;
+    let lacks_trigger = is_missing("materialization", items);
+    add_wrong_at(alloc, table, "materialization", lacks_trigger, findings)
 }
 
 // At each parameter what it shows by itself, and then what its value shows.

@@ -1,8 +1,8 @@
 // What a query of a caller binds to.
 
-ghost use Rattle.std.specs.Prelude.{◌≡◌, ◌<◌, ◌≤◌, IfOk, Ok, length};
+ghost use Rattle.std.specs.Prelude.{◌≡◌, ◌<◌, ◌≤◌, Err, IfErr, IfOk, Ok, length};
 ghost use Rattle.std.specs.List.{AllByRecursion};
-ghost use Rattle.lk_val.specs.Memory.{IsUnlessMemory, UnlessMemory};
+ghost use Rattle.lk_val.specs.Memory.{IsUnlessMemory, Unless, UnlessMemory};
 ghost use Rattle.lk_semantics.specs.Derived.{explore_at};
 ghost use Rattle.lk_body.specs.Faults.{is_no_memory};
 ghost use Rattle.lk_query.specs.Bindings.{IsBodyBound, IsBound, IsBoundFrom, bound_of, bound_with, checked, request_of};
@@ -139,9 +139,19 @@ fn checked(alloc: Global, x: &Explore, bound: Bound) -> Result<Bound, QueryFault
     requires few { length x.now.joins ≤ 31 }
     ensures { IsUnlessMemory is_no_memory result (checked x.now bound) }
 {
+    test_repeated(alloc, x, &bound)?;
+    Ok(bound)
+}
+
+// Tests that no measure of a bound query counts repeated rows.
+fn test_repeated(alloc: Global, x: &Explore, bound: &Bound) -> Result<(), QueryFault>
+    requires few { length x.now.joins ≤ 31 }
+    ensures ok { IfOk result (λ _. checked x.now bound.now ≡ Ok bound.now) }
+    ensures fault { IfErr result (λ fault. Unless (is_no_memory fault) (checked x.now bound.now ≡ Err fault)) }
+{
     let measures = query_measures(alloc, x, bound.picks.as_slice(), bound.having.as_slice())?;
     match first_repeated(x, bound.joins.as_slice(), measures.as_slice()) {
         Some(name) => Err(QueryFault::Q7(name.copy(alloc)?)),
-        None => Ok(bound),
+        None => Ok(()),
     }
 }

@@ -29,9 +29,22 @@ pub fn first_of_view(
     ensures { IfOk result (λ first. first ≡ soonest (view_findings schema.now view.now items.now)) }
 {
     let mut findings = Findings::new();
-    find_in_items(alloc, view, items, &mut findings)?;
-    find_table(alloc, schema, view, items, &mut findings)?;
+    find_in_view(alloc, schema, view, items, &mut findings)?;
     Ok(findings.first)
+}
+
+fn find_in_view(
+    alloc: Global,
+    schema: &Schema,
+    view: &str,
+    items: &[Item],
+    findings: &mut Findings,
+) -> Result<(), NoMemory>
+    ensures { IfOk result (λ _. findings.new.first
+        ≡ fold sooner findings.old.first (view_findings schema.now view.now items.now)) }
+{
+    find_in_items(alloc, view, items, findings)?;
+    find_table(alloc, schema, view, items, findings)
 }
 
 // At each parameter what it shows by itself, and then what its value shows.

@@ -31,12 +31,12 @@ pub fn read_field(alloc: Global, view: &str, item: &Item) -> Result<DeclaredFiel
     let name = block_name(item);
     let items = block_items(item);
     let sort = sort_of(item.name.as_str(), items);
-    let codes = read_codes(alloc, sort, name, items)?;
+    let own_name = Text::from_str(alloc, name)?;
     let lists = read_lists(alloc, sort, items)?;
+    let codes = read_codes(alloc, sort, name, items)?;
     let first = first_of_field(alloc, view, name, items, sort, &codes.sql, &codes.key)?;
-    let name = Text::from_str(alloc, name)?;
     Ok(DeclaredField {
-        name,
+        name: own_name,
         sort,
         sql: codes.sql,
         key: codes.key,
@@ -201,6 +201,22 @@ fn first_of_object(
     ensures { IfOk result (λ first. first ≡ soonest (own_findings object.now items.now sort sql.now key.now)) }
 {
     let mut findings = Findings::new();
+    find_in_object(alloc, object, items, sort, sql, key, &mut findings)?;
+    Ok(findings.first)
+}
+
+fn find_in_object(
+    alloc: Global,
+    object: &str,
+    items: &[Item],
+    sort: FieldSort,
+    sql: &Code,
+    key: &Code,
+    findings: &mut Findings,
+) -> Result<(), NoMemory>
+    ensures { IfOk result (λ _. findings.new.first
+        ≡ fold sooner findings.old.first (own_findings object.now items.now sort sql.now key.now)) }
+{
     find_unknown(
         alloc,
         Order::Field,
@@ -208,19 +224,18 @@ fn first_of_object(
         object,
         None,
         items,
-        &mut findings,
+        findings,
     )?;
-    find_in_values(alloc, object, items, sort, &mut findings)?;
-    find_in_code(alloc, Order::Field, object, "sql", sql, &mut findings)?;
+    find_in_values(alloc, object, items, sort, findings)?;
+    find_in_code(alloc, Order::Field, object, "sql", sql, findings)?;
     find_in_code(
         alloc,
         Order::Field,
         object,
         "sql_distinct_key",
         key,
-        &mut findings,
-    )?;
-    Ok(findings.first)
+        findings,
+    )
 }
 
 fn owner_of(sort: FieldSort) -> Owner
