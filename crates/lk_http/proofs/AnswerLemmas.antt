@@ -10,7 +10,7 @@ use Rattle.lk_http.specs.Fields.{Pair, body_length, do_lengths_agree, is_coded, 
 use Rattle.lk_http.specs.Heads.{Decided, whole, over, bad, Decides, AreOpenBefore, IsOpen}
 use Rattle.lk_http.specs.Items.{Item, IsDecided, IsNext, after, at_end, with_body, request_of, routed, fields_of, is_post, asks_close}
 use Rattle.lk_http.specs.Answers.{IsAnswer, IsDropped}
-use Rattle.lk_http.specs.Reading.{IsHeadRead, IsAsked, IsBodyRead, request_with, routed_with}
+use Rattle.lk_http.specs.Reading.{IsHeadRead, IsAsked, IsBodyRead, IsStatedRead, request_after, request_with, routed_with}
 use Rattle.lk_http.specs.Routes.{target_of}
 use Rattle.lk_http.specs.declared.asked.Asked.{Asked}
 use Rattle.lk_http.specs.declared.asked.Parts.{Parts}
@@ -116,7 +116,7 @@ answer bytes rest close ReadFault is next = absurd is
 answer bytes rest close NoMemory is next = absurd is
 
 -- the length of the body is refused
-pub refused_length : (left left' : Option (List ℕ)) (head : List ℕ) (close : Bool) (fault : HttpFault) (asked : Asked) → Consumes left left' head → IsHeadRead left' head (Ok Head) → IsAsked head asked
+refused_length : (left left' : Option (List ℕ)) (head : List ℕ) (close : Bool) (fault : HttpFault) (asked : Asked) → Consumes left left' head → IsHeadRead left' head (Ok Head) → IsAsked head asked
     → asked.length ≡ Err fault → IfSome left (λ bytes. IsAnswer bytes left' close (Err fault))
 refused_length None left' head close fault asked taken read of is = tt
 refused_length (Some bytes) None head close fault asked taken read of is = absurd taken
@@ -142,7 +142,7 @@ cut_whole [] got h reads = absurd ((open_at_first 0 (omega arith)).none h [] rea
 cut_whole (b ∷ head) got h reads = refl
 
 -- a fault in the body
-pub body_fault : (left left' left'' : Option (List ℕ)) (head : List ℕ) (close : Bool) (fault : HttpFault) (asked : Asked) (count : ℕ) → Consumes left left' head → IsHeadRead left' head (Ok Head) → IsAsked head asked
+body_fault : (left left' left'' : Option (List ℕ)) (head : List ℕ) (close : Bool) (fault : HttpFault) (asked : Asked) (count : ℕ) → Consumes left left' head → IsHeadRead left' head (Ok Head) → IsAsked head asked
     → asked.length ≡ Ok count → IsBodyRead left' left'' count (Err fault) → IfSome left (λ bytes. IsAnswer bytes left'' close (Err fault))
 body_fault None left' left'' head close fault asked count taken read of is body = tt
 body_fault (Some bytes) None left'' head close fault asked count taken read of is body = absurd taken
@@ -223,7 +223,7 @@ given bytes rest close item result (inl (same, plain)) next = subst (IsAnswer by
 given bytes rest close item result (inr (none, dropped)) next = subst (IsAnswer bytes (Some rest) close) (sym none) (item, rest, next, refl, dropped)
 
 -- a whole request
-pub whole_request : (left left' left'' : Option (List ℕ)) (head : List ℕ) (asked : Asked) (count : ℕ) (kept : Option (List ℕ)) (result : Item) → Consumes left left' head → IsHeadRead left' head (Ok Head) → IsAsked head asked
+whole_request : (left left' left'' : Option (List ℕ)) (head : List ℕ) (asked : Asked) (count : ℕ) (kept : Option (List ℕ)) (result : Item) → Consumes left left' head → IsHeadRead left' head (Ok Head) → IsAsked head asked
     → asked.length ≡ Ok count → IsBodyRead left' left'' count (Ok kept) → result ≡ request_with asked.post asked.close kept asked.parts → IfSome left (λ bytes. IsAnswer bytes left'' asked.close result)
 whole_request None left' left'' head asked count kept result taken read of is body gave = tt
 whole_request (Some bytes) None left'' head asked count kept result taken read of is body gave = absurd taken
@@ -237,13 +237,63 @@ whole_request (Some bytes) (Some rest) (Some last) head asked count kept result 
     (next_decided bytes head rest (whole h) (item, last) taken read.0 reads
     (ap (λ x. (x, last)) item_of ∙ whole_body h got last ∙ (λ i. with_body h (sym consumed i) (sym length_is i))))
 
+-- what is answered of a whole head, by what became of its body
+pub request_next : (left left' left'' : Option (List ℕ)) (head slice : List ℕ) (asked : Asked) (body : Result (Option (List ℕ)) HttpFault) (result : Item) → Consumes left left' head → IsHeadRead left' head (Ok Head) → slice ≡ head → IsAsked slice asked
+    → IsStatedRead left' left'' asked.length body → result ≡ request_after asked.post asked.close body asked.parts → IfSome left (λ bytes. IsAnswer bytes left'' asked.close result)
+request_next left left' left'' head slice asked body result taken read same asks stated gave =
+    subst (λ r. IfSome left (λ bytes. IsAnswer bytes left'' asked.close r)) (sym gave) (by_length asked.length body refl stated) where
+      of : IsAsked head asked
+      of = subst (λ bytes. IsAsked bytes asked) same asks
+
+      by_length : (length : Result ℕ HttpFault) (b : Result (Option (List ℕ)) HttpFault) → asked.length ≡ length → IsStatedRead left' left'' length b
+          → IfSome left (λ bytes. IsAnswer bytes left'' asked.close (request_after asked.post asked.close b asked.parts))
+      by_length (Err fault) b is (none, last) =
+          subst (λ x. IfSome left (λ bytes. IsAnswer bytes left'' asked.close (request_after asked.post asked.close x asked.parts))) (sym none)
+          (subst (λ l. IfSome left (λ bytes. IsAnswer bytes l asked.close (Err fault))) (sym last) (refused_length left left' head asked.close fault asked taken read of is))
+      by_length (Ok count) (Err fault) is s = body_fault left left' left'' head asked.close fault asked count taken read of is s
+      by_length (Ok count) (Ok kept) is s = whole_request left left' left'' head asked count kept (request_with asked.post asked.close kept asked.parts) taken read of is s refl
+
+-- no failed read
+abbrev IsOther : Item → Type 0
+IsOther (Err ReadFault) = ⊥
+IsOther item = Unit {0}
+
+other_length : (fault : HttpFault) → IsLengthFault fault → IsOther (Err fault)
+other_length H1 is = tt
+other_length H2 is = tt
+other_length (H3 n) is = tt
+other_length (H4 c) is = absurd is
+other_length (H5 c) is = absurd is
+other_length H6 is = absurd is
+other_length Truncated is = absurd is
+other_length ReadFault is = absurd is
+other_length NoMemory is = absurd is
+
+other_request : (post close : Bool) (kept : Option (List ℕ)) (parts : Result Parts memory) → IsOther (request_with post close kept parts)
+other_request post close kept (Err none) = tt
+other_request post close kept (Ok parts) = by_target parts.target post kept where
+  by_target : (target : Option Target) (p : Bool) (k : Option (List ℕ)) → IsOther (routed_with p close parts.user k target)
+  by_target None p k = tt
+  by_target (Some target) false k = tt
+  by_target (Some target) true None = tt
+  by_target (Some target) true (Some k) = tt
+
+abbrev fault_in : Item → Result (Option (List ℕ)) HttpFault
+fault_in (Ok got) = Ok None
+fault_in (Err fault) = Err fault
+
+-- a failed read behind a whole head is one of its body
+pub read_fault_of_body : (left left' : Option (List ℕ)) (slice : List ℕ) (asked : Asked) (body : Result (Option (List ℕ)) HttpFault) (result : Item) (R : Type 0) → IsAsked slice asked → IsStatedRead left left' asked.length body
+    → result ≡ request_after asked.post asked.close body asked.parts → IfOk asked.length (λ _. body ≡ Err ReadFault → R) → result ≡ Err ReadFault → R
+read_fault_of_body left left' slice asked body result R (h, reads, by) stated gave may failed =
+    by_length asked.length body (subst IfLengthFault (sym by.count) (is_length_fault (is_post h) (fields_of h))) stated may (sym gave ∙ failed) where
+      by_length : (length : Result ℕ HttpFault) (b : Result (Option (List ℕ)) HttpFault) → IfLengthFault length → IsStatedRead left left' length b → IfOk length (λ _. b ≡ Err ReadFault → R)
+          → request_after asked.post asked.close b asked.parts ≡ Err ReadFault → R
+      by_length (Err fault) b if (none, last) m is = absurd (subst IsOther (ap (λ x. request_after asked.post asked.close x asked.parts) (sym none) ∙ is) (other_length fault if))
+      by_length (Ok count) (Err fault) if s m is = m (ap fault_in is)
+      by_length (Ok count) (Ok kept) if s m is = absurd (subst IsOther is (other_request asked.post asked.close kept asked.parts))
+
 -- ---- what a call gave
 
 pub front_is : (left' : Option (List ℕ)) (head : List ℕ) (front is : Front) → front ≡ is → IsHeadRead left' head (Ok front) → IsHeadRead left' head (Ok is)
 front_is left' head front is e h = subst (λ f. IsHeadRead left' head (Ok f)) e h
-
-pub asked_of : (slice head : List ℕ) (asked : Asked) → slice ≡ head → IsAsked slice asked → IsAsked head asked
-asked_of slice head asked e h = subst (λ bytes. IsAsked bytes asked) e h
-
-pub answer_is : (left left' : Option (List ℕ)) (close : Bool) (given result : Item) → result ≡ given → IfSome left (λ bytes. IsAnswer bytes left' close given) → IfSome left (λ bytes. IsAnswer bytes left' close result)
-answer_is left left' close given result e h = subst (λ r. IfSome left (λ bytes. IsAnswer bytes left' close r)) (sym e) h

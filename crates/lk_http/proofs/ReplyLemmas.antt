@@ -1,6 +1,7 @@
 -- The reason phrases of the statuses, and fronts of what is written piece by piece.
 use Rattle.std.proofs.Common.{◌≡◌, ℕ, ◌+◌, ◌≤◌, Bool, true, false, List, [], ◌∷◌, ◌++◌, length, take, Some, Option, refl, sym, subst, ◌∙◌, arith, eqb-true, take_all, ⊎_elim, Result, Ok, Err}
 use Rattle.std.proofs.lemmas.Bool.{cases_lt}
+use Rattle.std.proofs.lemmas.Result.{on_err_weaker}
 use Rattle.std.specs.Result.{OnErr}
 use Rattle.std.specs.Prelude.{◌==◌, ◌||◌}
 use Rattle.std.specs.Io.KnownBytes.{Appends}
@@ -9,8 +10,10 @@ use Rattle.std.proofs.KnownBytes.{Appends-trans}
 use Rattle.std.proofs.Math.Seq.{take-append_seam, take-append-add}
 use Rattle.std.proofs.lemmas.List.{take-append-le}
 use Rattle.http.specs.StatusCode.{reason_phrase}
+use Rattle.lk_io.specs.Causes.{HasCause}
 use Rattle.lk_io.specs.Streams.{AppendsFront}
 use Rattle.lk_http.specs.Replies.{statuses, is_status, reason_of}
+use Rattle.lk_http.proofs.ReadingLemmas.{rose_on}
 
 -- what holds of each number of a list
 abbrev Each : (ℕ → Type 0) → List ℕ → Type 0
@@ -50,3 +53,7 @@ front_after_first a b c xs ys h (count, k) =
 pub after_any : {T E : Type 0} (r : Result T E) {P : Type 0} → P → OnErr r P
 after_any (Ok x) p = tt
 after_any (Err e) p = p
+
+-- a cause at a later step
+pub cause_on : {T E : Type 0} (a b c : ℕ) (r : Result T E) → a ≤ b → HasCause b c r → HasCause a c r
+cause_on a b c r later cause = record { later = omega (arith, later, cause.later); rose = on_err_weaker r (λ rose. rose_on a b c later rose) cause.rose }

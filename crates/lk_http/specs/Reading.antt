@@ -6,9 +6,11 @@ use Rattle.lk_http.specs.Fields.{body_length, user_of}
 use Rattle.lk_http.specs.Heads.{AreOpenBefore, Decides, over, bad}
 use Rattle.lk_http.specs.Items.{Item, fields_of, is_post, asks_close}
 use Rattle.lk_http.specs.Judged.{IsWhole}
+use Rattle.lk_http.specs.Places.{IsAt}
 use Rattle.lk_http.specs.Routes.{target_of}
 use Rattle.lk_http.specs.declared.asked.Asked.{Asked}
 use Rattle.lk_http.specs.declared.asked.Parts.{Parts}
+use Rattle.lk_http.specs.declared.place.Place.{Place}
 use Rattle.lk_http.specs.declared.reading.Front.{Front}
 use Rattle.lk_http.specs.declared.reading.Front.TheVariants.{Ended, Head}
 use Rattle.lk_http.specs.declared.request.Target.{Target}
@@ -34,6 +36,21 @@ IsHeadRead left' head (Err Truncated) = AreOpenBefore (length head + 1) head × 
 IsHeadRead left' head (Err ReadFault) = AreOpenBefore (length head + 1) head
 IsHeadRead left' head (Err fault) = ⊥
 
+-- the bytes that a pull of the next byte took
+abbrev pub taken_by : Result (Option ℕ) HttpFault → List ℕ
+taken_by (Ok (Some b)) = b ∷ []
+taken_by next = []
+
+-- the bytes of a head, of which the last pull gave this, are answered so, whatever the input
+abbrev pub IsAnsweredBy : Result (Option ℕ) HttpFault → List ℕ → Result Front HttpFault → Type 0
+IsAnsweredBy next head answer = (left left' : Option (List ℕ)) → IsByteRead left left' next → IsHeadRead left' head answer
+
+-- with a byte more they still want more, and the last byte stands there
+pub record StaysOpen (head more : List ℕ) (place : Place) : Type 0 where
+  pub longer : length head < length more
+  pub early : AreOpenBefore (length more + 1) more
+  pub at : IsAt more place
+
 -- what a whole head asks for
 pub record IsAskedBy (head : RequestHead) (asked : Asked) : Type 0 where
   pub post : asked.post ≡ is_post head
@@ -57,6 +74,11 @@ abbrev pub request_with : Bool → Bool → Option (List ℕ) → Result Parts m
 request_with post close body (Ok parts) = routed_with post close parts.user body parts.target
 request_with post close body (Err _) = Err NoMemory
 
+-- the request of a head and its body, or why that was not read
+abbrev pub request_after : Bool → Bool → Result (Option (List ℕ)) HttpFault → Result Parts memory → Item
+request_after post close (Ok body) parts = request_with post close body parts
+request_after post close (Err fault) parts = Err fault
+
 -- so many bytes, which may have been dropped, or a cut within them
 abbrev pub IsBodyRead : Option (List ℕ) → Option (List ℕ) → ℕ → Result (Option (List ℕ)) HttpFault → Type 0
 IsBodyRead left left' count (Ok body) =
@@ -65,3 +87,8 @@ IsBodyRead left left' count (Err Truncated) =
     (bytes : List ℕ) × (length bytes < count) × Consumes left left' bytes × IsAtEnd left'
 IsBodyRead left left' count (Err ReadFault) = (bytes : List ℕ) × (length bytes < count) × Consumes left left' bytes
 IsBodyRead left left' count (Err fault) = ⊥
+
+-- a body of the length that is stated, or why that is refused, and then nothing is read
+abbrev pub IsStatedRead : Option (List ℕ) → Option (List ℕ) → Result ℕ HttpFault → Result (Option (List ℕ)) HttpFault → Type 0
+IsStatedRead left left' (Ok count) result = IsBodyRead left left' count result
+IsStatedRead left left' (Err fault) result = (result ≡ Err fault) × (left' ≡ left)

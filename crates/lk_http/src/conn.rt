@@ -1,7 +1,7 @@
 ghost use Rattle.std.specs.Prelude.{◌≡◌, IfOk, IfSome, IsErrOf, false};
 ghost use Rattle.lk_io.specs.Causes.{Rose};
 ghost use Rattle.lk_http.specs.Answers.{IsAnswer, OnlyReads};
-ghost use Rattle.lk_http.specs.Reading.{request_with};
+ghost use Rattle.lk_http.specs.Reading.{request_after};
 ghost use Rattle.lk_http.specs.Ways.{Comes};
 ghost use Rattle.lk_http.specs.declared.faults.HttpFault.{HttpFault};
 
@@ -69,21 +69,23 @@ pub fn read_request<L: Link>(alloc: Global, link: &mut L, conn: &mut Conn) -> Re
         Rose (L.Source.faults link.old) (L.Source.faults link.new) }
     ensures pulls { Comes L.Source.keeps_at_pull link.old link.new }
 {
-    match read_head(link, &mut conn.head)? {
-        Front::Ended => Ok(Got::End),
-        Front::Head => {
+    match read_head(link, &mut conn.head) {
+        Ok(Front::Head) => {
             let asked = read_asked(alloc, &conn.router, conn.head.as_slice());
             conn.close = asked.close;
-            let body = read_body(alloc, link, asked.length?)?;
+            let body = read_body(alloc, link, asked.length);
             route(asked, body)
         }
+        Ok(Front::Ended) => Ok(Got::End),
+        Err(fault) => Err(fault),
     }
 }
 
-// The request of a head and its body, which is None where memory was refused.
-fn route(asked: Asked, body: Option<Bytes>) -> Result<Got, HttpFault>
-    ensures { result ≡ request_with asked.post asked.close body asked.parts }
+// The request of a head and its body, which is None where memory was refused, or why that was not read.
+fn route(asked: Asked, body: Result<Option<Bytes>, HttpFault>) -> Result<Got, HttpFault>
+    ensures { result ≡ request_after asked.post asked.close body asked.parts }
 {
+    let body = body?;
     let Asked {
         post,
         close,

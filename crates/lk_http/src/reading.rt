@@ -1,9 +1,11 @@
-ghost use Rattle.std.specs.Prelude.{◌≡◌, ◌≤◌, ◌<◌, ◌++◌, ◌∷◌, [], IfErr, IfOk, IfSome, IsErrOf, None, OnErr, length, take, vec_len};
+ghost use Rattle.std.specs.Prelude.{◌≡◌, ◌≤◌, ◌<◌, ◌+◌, ◌++◌, ◌∷◌, [], IfErr, IfOk, IfSome, IsErrOf, None, OnErr, length, take, vec_len};
 ghost use Rattle.std.specs.Io.KnownBytes.{Consumes, IsAtEnd};
 ghost use Rattle.std.specs.Vec.{vec_capacity};
 ghost use Rattle.lk_io.specs.Causes.{Rose};
 ghost use Rattle.lk_http.specs.Answers.{OnlyReads};
-ghost use Rattle.lk_http.specs.Reading.{IsBodyRead, IsByteRead, IsHeadRead};
+ghost use Rattle.lk_http.specs.Heads.{AreOpenBefore};
+ghost use Rattle.lk_http.specs.Places.{IsAt};
+ghost use Rattle.lk_http.specs.Reading.{IsAnsweredBy, IsByteRead, IsHeadRead, IsStatedRead, StaysOpen, taken_by};
 ghost use Rattle.lk_http.specs.Ways.{Comes};
 ghost use Rattle.lk_http.specs.declared.faults.HttpFault.{HttpFault};
 
@@ -23,7 +25,6 @@ pub(crate) enum Front {
 }
 
 // Reads a head, and no byte that it does not need.
-#[tactic(auto, using(crate::proofs::HeadLemmas::open_before_next))]
 pub(crate) fn read_head<L: Link>(link: &mut L, head: &mut Vec<u8>) -> Result<Front, HttpFault>
     requires room { 16384 ≤ vec_capacity head.old }
     ensures room { vec_capacity head.old ≤ vec_capacity head.new }
@@ -39,21 +40,43 @@ pub(crate) fn read_head<L: Link>(link: &mut L, head: &mut Vec<u8>) -> Result<Fro
     head.clear();
     let mut place = Place::Blank;
     while head.len() < HEAD_LIMIT {
-        let byte = match pull_byte(link)? {
-            Some(byte) => byte,
-            None if head.is_empty() => return Ok(Front::Ended),
-            None => return Err(HttpFault::Truncated),
-        };
-        push_within(head, byte);
-        match judge_next(head.as_slice(), byte, &mut place) {
-            Seen::Open => {}
-            Seen::Whole => return Ok(Front::Head),
-            Seen::TooLong => return Err(HttpFault::H6),
-            Seen::Invalid => return Err(HttpFault::H1),
+        let next = pull_byte(link);
+        if let Some(answer) = add_next(head, &mut place, next) {
+            return answer;
         }
     }
     // A front of that many bytes is too long.
     unreachable!()
+}
+
+// Adds the next byte to a head: what the head is then, or None where more bytes are wanted.
+fn add_next(
+    head: &mut Vec<u8>,
+    place: &mut Place,
+    next: Result<Option<u8>, HttpFault>,
+) -> Option<Result<Front, HttpFault>>
+    requires room { vec_len head.old < vec_capacity head.old }
+    requires early { AreOpenBefore (length head.old.items + 1) head.old.items }
+    requires at { IsAt head.old.items place.old }
+    ensures room { vec_capacity head.old ≤ vec_capacity head.new }
+    ensures added { head.new.items ≡ head.old.items ++ taken_by next }
+    ensures stays { result ≡ None → StaysOpen head.old.items head.new.items place.new }
+    ensures answer { IfSome result (IsAnsweredBy next head.new.items) }
+    ensures cause { IfSome result (λ answer. IsErrOf answer HttpFault.ReadFault → IsErrOf next HttpFault.ReadFault) }
+{
+    let byte = match next {
+        Ok(Some(byte)) => byte,
+        Ok(None) if head.is_empty() => return Some(Ok(Front::Ended)),
+        Ok(None) => return Some(Err(HttpFault::Truncated)),
+        Err(fault) => return Some(Err(fault)),
+    };
+    push_within(head, byte);
+    match judge_next(head.as_slice(), byte, place) {
+        Seen::Open => None,
+        Seen::Whole => Some(Ok(Front::Head)),
+        Seen::TooLong => Some(Err(HttpFault::H6)),
+        Seen::Invalid => Some(Err(HttpFault::H1)),
+    }
 }
 
 // Adds a byte where there is room for it.
@@ -88,24 +111,24 @@ fn pull_byte<L: Link>(link: &mut L) -> Result<Option<u8>, HttpFault>
 // The most bytes of a body that are pulled at once.
 const PIECE: u64 = 8192;
 
-// Reads a body of so many bytes, into memory that grows as they come. Where memory is refused it is None,
-// and the bytes are read all the same.
+// Reads a body of the stated length, into memory that grows as its bytes come. Where memory is refused it is
+// None, and the bytes are read all the same.
 pub(crate) fn read_body<L: Link>(
     alloc: Global,
     link: &mut L,
-    count: u64,
+    stated: Result<u64, HttpFault>,
 ) -> Result<Option<Bytes>, HttpFault>
-    ensures read { IsBodyRead (L.left link.old) (L.left link.new) count result }
+    ensures read { IsStatedRead (L.left link.old) (L.left link.new) stated result }
     ensures link { OnlyReads (L.held link.old) (L.held link.new)
         (L.Sink.faults link.old) (L.Sink.faults link.new)
         (L.Source.faults link.old) (L.Source.faults link.new) }
-    ensures cause { IsErrOf result HttpFault.ReadFault →
-        Rose (L.Source.faults link.old) (L.Source.faults link.new) }
+    ensures cause { IfOk stated (λ _. IsErrOf result HttpFault.ReadFault →
+        Rose (L.Source.faults link.old) (L.Source.faults link.new)) }
     ensures pulls { Comes L.Source.keeps_at_pull link.old link.new }
 {
+    let mut missing = stated?;
     let mut body = Some(Bytes::new(alloc));
     let mut piece = [0u8; PIECE as usize];
-    let mut missing = count;
     while missing > 0 {
         let most = missing.min(PIECE) as usize;
         let got = pull_piece(link, &mut piece, most)?;

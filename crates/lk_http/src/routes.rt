@@ -1,4 +1,4 @@
-ghost use Rattle.std.specs.Prelude.{◌≡◌, IfOk};
+ghost use Rattle.std.specs.Prelude.{◌≡◌, [], IfOk, OnOk};
 ghost use Rattle.lk_http.specs.Routes.{server_routes};
 
 use lk_val::NoMemory;
@@ -20,19 +20,20 @@ pub enum Route {
 pub(crate) fn server_router(alloc: Global) -> Result<Router<Route>, NoMemory>
     ensures { IfOk result (λ router. router ≡ server_routes) }
 {
-    match insert_all(alloc) {
-        Ok(router) => Ok(router),
+    let mut router = Router::new(alloc);
+    match insert_all(&mut router) {
+        Ok(()) => Ok(router),
         Err(_) => Err(NoMemory),
     }
 }
 
-fn insert_all(alloc: Global) -> Result<Router<Route>, InsertError>
-    ensures { IfOk result (λ router. router ≡ server_routes) }
+fn insert_all(router: &mut Router<Route>) -> Result<(), InsertError>
+    requires { router.old ≡ [] }
+    ensures { OnOk result (router.new ≡ server_routes) }
 {
-    let mut router = Router::new(alloc);
     router.insert("/check", Route::Check)?;
     router.insert("/query/{explore}", Route::Query)?;
     router.insert("/load/{table}/append/{id}", Route::Append)?;
     router.insert("/load/{table}/replace/{id}", Route::Replace)?;
-    Ok(router)
+    Ok(())
 }

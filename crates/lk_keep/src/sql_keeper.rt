@@ -1,4 +1,4 @@
-ghost use Rattle.std.specs.Prelude.{◌≡◌, None, IfOk};
+ghost use Rattle.std.specs.Prelude.{◌≡◌, None, IfOk, IfSome};
 ghost use Rattle.lk_ledger.specs.Causes.{HasKeepCause, count_after};
 ghost use Rattle.lk_ledger.specs.Saved.{IsSaved};
 ghost use Rattle.lk_keep.specs.System.{sql_faults};
@@ -12,9 +12,8 @@ use lk_ledger::{Command, KeepFault, Keeper, Kept, faults_after};
 use lk_val::Text;
 use reading::read_store;
 use refusal::Refusal;
-use sqlite::{Connection, File, FileStore};
+use sqlite::{Alter, Connection, File, FileStore};
 use std::alloc::Global;
-use std::mem;
 use std::rt::HostRuntime;
 use writing::{write_check, write_load};
 
@@ -29,9 +28,40 @@ pub struct SqlKeeper {
     faults: u64,
 }
 
-// The file at a path, which is made where there is none.
-fn open_file(rt: &HostRuntime, path: &str) -> Result<Connection<FileStore<File>>, Refusal> {
-    Ok(Connection::open(rt, path)?)
+// What a call does with the open file.
+#[derive(Drop)]
+enum Task<'c> {
+    Read(Global),
+    Load(&'c Command),
+    Check(u64),
+}
+
+// Does it with the open file, and lets go of that where it fails. A read alone hands something over.
+fn run_on<S: Alter + Drop>(
+    opened: &mut Option<Connection<S>>,
+    task: Task<'_>,
+) -> Result<Option<Kept>, Refusal>
+    ensures saved { IfOk result (λ kept. IfSome kept IsSaved) }
+{
+    let answer = match opened {
+        Some(connection) => run(connection, task),
+        None => Err(Refusal::Failed),
+    };
+    if answer.is_err() {
+        drop(opened.take());
+    }
+    answer
+}
+
+fn run<S: Alter>(connection: &mut Connection<S>, task: Task<'_>) -> Result<Option<Kept>, Refusal>
+    ensures saved { IfOk result (λ kept. IfSome kept IsSaved) }
+{
+    match task {
+        Task::Read(alloc) => return Ok(Some(read_store(alloc, connection)?)),
+        Task::Load(command) => write_load(connection, command)?,
+        Task::Check(number) => write_check(connection, number)?,
+    }
+    Ok(None)
 }
 
 impl SqlKeeper {
@@ -54,53 +84,30 @@ impl SqlKeeper {
         self.faults
     }
 
-    // The open file, which is put back where the call succeeds.
-    fn take_opened(&mut self) -> Result<Connection<FileStore<File>>, Refusal>
+    // One function for all calls: each that names the store of the file is dear to prove.
+    fn call(&mut self, task: Task<'_>) -> Result<Option<Kept>, Refusal>
+        ensures saved { IfOk result (λ kept. IfSome kept IsSaved) }
         ensures same { sql_faults self.new ≡ sql_faults self.old }
     {
-        match self.opened.take() {
-            Some(connection) => Ok(connection),
-            None => open_file(&self.rt, self.path.as_str()),
+        if self.opened.is_none() {
+            let connection = Connection::open(&self.rt, self.path.as_str())?;
+            drop(self.opened.replace(connection));
         }
-    }
-
-    // Keeps the file open behind a call on it that succeeded.
-    fn put_back(&mut self, connection: Connection<FileStore<File>>, is_well: bool)
-        ensures same { sql_faults self.new ≡ sql_faults self.old }
-    {
-        if is_well {
-            drop(mem::replace(&mut self.opened, Some(connection)));
-        } else {
-            drop(connection);
-        }
+        run_on(&mut self.opened, task)
     }
 
     fn read(&mut self, alloc: Global) -> Result<Kept, KeepFault>
         ensures saved { IfOk result IsSaved }
         ensures same { sql_faults self.new ≡ sql_faults self.old }
     {
-        let mut connection = self.take_opened()?;
-        let answer = read_store(alloc, &mut connection);
-        self.put_back(connection, answer.is_ok());
-        Ok(answer?)
+        self.call(Task::Read(alloc))?.ok_or(KeepFault::Failed)
     }
 
-    fn write_load(&mut self, command: &Command) -> Result<(), KeepFault>
+    fn write(&mut self, task: Task<'_>) -> Result<(), KeepFault>
         ensures same { sql_faults self.new ≡ sql_faults self.old }
     {
-        let mut connection = self.take_opened()?;
-        let answer = write_load(&mut connection, command);
-        self.put_back(connection, answer.is_ok());
-        Ok(answer?)
-    }
-
-    fn write_check(&mut self, number: u64) -> Result<(), KeepFault>
-        ensures same { sql_faults self.new ≡ sql_faults self.old }
-    {
-        let mut connection = self.take_opened()?;
-        let answer = write_check(&mut connection, number);
-        self.put_back(connection, answer.is_ok());
-        Ok(answer?)
+        self.call(task)?;
+        Ok(())
     }
 
     // Counts a call's fault.
@@ -137,7 +144,7 @@ impl Keeper for SqlKeeper {
 
         ensures counted { sql_faults self.new ≡ count_after (sql_faults self.old) result }
     {
-        let answer = self.write_load(command);
+        let answer = self.write(Task::Load(command));
         self.count(answer)
     }
 
@@ -146,7 +153,7 @@ impl Keeper for SqlKeeper {
 
         ensures counted { sql_faults self.new ≡ count_after (sql_faults self.old) result }
     {
-        let answer = self.write_check(number);
+        let answer = self.write(Task::Check(number));
         self.count(answer)
     }
 }

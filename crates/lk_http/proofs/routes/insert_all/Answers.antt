@@ -9,4 +9,4 @@ returns c =
     let b = c.in_ok-insert-2.ensures in
     let d = c.in_ok-insert-3.ensures in
     let e = c.in_ok-insert-4.ensures in
-    rw (d.1, b.1, a.1, c.new-router.ensures) at e.1
+    rw (d.1, b.1, a.1, c.requires) at e.1
