@@ -1,108 +1,123 @@
-use crate::values::{show_cell, show_value};
+use crate::values::{add_cell, add_text, add_value};
 use case_lines::CaseFault;
-use lk_agg::{AggFault, GroupRow, Partial};
-use lk_val::{Bytes, Cell, Items, Text, Value};
+use lk_agg::{Acc, AggFault, GroupRow, Partial, partials};
+use lk_val::{Items, Value, print_count};
 use std::alloc::Global;
 
-/// The groups with their cells, as `EU: 100 2, US: 30.5 1`; or the conflict.
-pub fn answer_groups(
-    alloc: Global,
-    groups: Result<Items<GroupRow>, AggFault>,
-) -> Result<Text, CaseFault> {
-    let groups = match groups {
-        Ok(groups) => groups,
-        Err(fault) => return answer_fault(alloc, fault),
-    };
-    let mut line = Bytes::new(alloc);
-    for row in groups.as_slice() {
-        begin_group(alloc, &mut line, row.group.as_slice())?;
-        for cell in row.cells.as_slice() {
-            add_word(&mut line, show_cell(alloc, cell)?.as_str())?;
+/// Adds the groups with their cells, as `EU: 100 2, US: 30.5 1`; or the conflict.
+pub fn add_measured(alloc: Global, acc: Acc, line: &mut String) -> Result<(), CaseFault> {
+    match acc.finish() {
+        Ok(groups) => add_groups(alloc, groups.as_slice(), line),
+        Err(fault) => {
+            let added = add_fault(alloc, &fault, line);
+            // By name, since that is one call where the end of a block is one for each form.
+            drop(fault);
+            added
         }
     }
-    as_answer(alloc, line, "no groups")
 }
 
-/// The groups with the parts of each measure, as `EU: count 2, US: sum 30.5 of 1`; or the conflict.
-pub fn answer_parts(
-    alloc: Global,
-    groups: Result<Items<(Items<Value>, Items<Partial>)>, AggFault>,
-) -> Result<Text, CaseFault> {
-    let groups = match groups {
-        Ok(groups) => groups,
-        Err(fault) => return answer_fault(alloc, fault),
-    };
-    let mut line = Bytes::new(alloc);
-    for row in groups.as_slice() {
-        begin_group(alloc, &mut line, row.0.as_slice())?;
-        for parts in row.1.as_slice() {
-            add_parts(alloc, &mut line, parts)?;
+/// Adds the groups with the parts of each measure, as `EU: count 2, US: sum 30.5 of 1`; or the conflict.
+pub fn add_kept(alloc: Global, acc: Acc, line: &mut String) -> Result<(), CaseFault> {
+    match partials(acc) {
+        Ok(groups) => add_groups_of_parts(alloc, groups.as_slice(), line),
+        Err(fault) => {
+            let added = add_fault(alloc, &fault, line);
+            drop(fault);
+            added
         }
     }
-    as_answer(alloc, line, "nothing")
 }
 
-fn answer_fault(alloc: Global, fault: AggFault) -> Result<Text, CaseFault> {
+fn add_fault(alloc: Global, fault: &AggFault, line: &mut String) -> Result<(), CaseFault> {
     match fault {
         AggFault::Conflict { measure, key } => {
-            let key = show_value(alloc, &key)?;
-            let key = key.as_str();
-            Ok(Text::from_string(format!(in alloc; "measure {measure} has two values for {key}")?))
+            write!(line, "measure {measure} has two values for ")?;
+            add_value(alloc, key, line)
         }
         AggFault::NoMemory => Err(CaseFault::NoMemory),
     }
 }
 
-fn begin_group(alloc: Global, line: &mut Bytes, group: &[Value]) -> Result<(), CaseFault> {
-    if !line.is_empty() {
-        line.append(b",")?;
+fn add_groups(alloc: Global, groups: &[GroupRow], line: &mut String) -> Result<(), CaseFault> {
+    for row in groups {
+        add_group(alloc, row.group.as_slice(), line)?;
+        for cell in row.cells.as_slice() {
+            line.push_str(space_behind(line))?;
+            add_cell(alloc, cell, line)?;
+        }
     }
-    if group.is_empty() {
-        return Ok(());
+    add_if_empty("no groups", line)
+}
+
+fn add_groups_of_parts(
+    alloc: Global,
+    groups: &[(Items<Value>, Items<Partial>)],
+    line: &mut String,
+) -> Result<(), CaseFault> {
+    for row in groups {
+        add_group(alloc, row.0.as_slice(), line)?;
+        for parts in row.1.as_slice() {
+            add_parts(alloc, parts, line)?;
+        }
     }
+    add_if_empty("nothing", line)
+}
+
+fn add_group(alloc: Global, group: &[Value], line: &mut String) -> Result<(), CaseFault> {
+    line.push_str(if line.is_empty() { "" } else { "," })?;
     for value in group {
-        add_word(line, show_value(alloc, value)?.as_str())?;
+        line.push_str(space_behind(line))?;
+        add_value(alloc, value, line)?;
     }
-    Ok(line.append(b":")?)
+    Ok(line.push_str(if group.is_empty() { "" } else { ":" })?)
 }
 
 // The parts that are not zero or null.
-fn add_parts(alloc: Global, line: &mut Bytes, parts: &Partial) -> Result<(), CaseFault> {
-    if parts.count > 0 {
-        add_part(alloc, line, "count", &Cell::Count(parts.count))?;
-    }
+fn add_parts(alloc: Global, parts: &Partial, line: &mut String) -> Result<(), CaseFault> {
+    add_count("count", parts.count, line)?;
     if parts.sum != 0 || parts.values > 0 {
-        add_part(alloc, line, "sum", &Cell::Sum(parts.sum))?;
-        add_part(alloc, line, "of", &Cell::Count(parts.values))?;
+        add_sum(alloc, parts.sum, parts.values, line)?;
     }
-    if parts.least != Value::Null {
-        add_part(alloc, line, "least", &Cell::Value(parts.least.copy(alloc)?))?;
-    }
-    if parts.most != Value::Null {
-        add_part(alloc, line, "most", &Cell::Value(parts.most.copy(alloc)?))?;
-    }
-    if parts.distinct > 0 {
-        add_part(alloc, line, "distinct", &Cell::Count(parts.distinct))?;
-    }
-    Ok(())
+    add_extreme(alloc, "least", &parts.least, line)?;
+    add_extreme(alloc, "most", &parts.most, line)?;
+    add_count("distinct", parts.distinct, line)
 }
 
-fn add_part(alloc: Global, line: &mut Bytes, name: &str, cell: &Cell) -> Result<(), CaseFault> {
-    add_word(line, name)?;
-    add_word(line, show_cell(alloc, cell)?.as_str())
+fn add_count(name: &str, count: u64, line: &mut String) -> Result<(), CaseFault> {
+    if count == 0 {
+        return Ok(());
+    }
+    let space = space_behind(line);
+    Ok(write!(line, "{space}{name} {count}")?)
 }
 
-fn add_word(line: &mut Bytes, word: &str) -> Result<(), CaseFault> {
-    if !line.is_empty() {
-        line.append(b" ")?;
-    }
-    Ok(line.append(word.as_bytes())?)
+fn add_sum(alloc: Global, sum: i128, values: u64, line: &mut String) -> Result<(), CaseFault> {
+    let space = space_behind(line);
+    write!(line, "{space}sum ")?;
+    add_text(print_count(alloc, sum), line)?;
+    Ok(write!(line, " of {values}")?)
 }
 
-// The line, or a word where it is empty.
-fn as_answer(alloc: Global, line: Bytes, empty: &str) -> Result<Text, CaseFault> {
-    if line.is_empty() {
-        return Ok(Text::from_str(alloc, empty)?);
+fn add_extreme(
+    alloc: Global,
+    name: &str,
+    value: &Value,
+    line: &mut String,
+) -> Result<(), CaseFault> {
+    if let Value::Null = value {
+        return Ok(());
     }
-    Text::from_utf8(alloc, line.as_slice())?.ok_or(CaseFault::NoSuchCase)
+    let space = space_behind(line);
+    write!(line, "{space}{name} ")?;
+    add_value(alloc, value, line)
+}
+
+// What parts the next word from those of the line.
+fn space_behind(line: &String) -> &'static str {
+    if line.is_empty() { "" } else { " " }
+}
+
+fn add_if_empty(word: &str, line: &mut String) -> Result<(), CaseFault> {
+    Ok(line.push_str(if line.is_empty() { word } else { "" })?)
 }

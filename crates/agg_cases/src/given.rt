@@ -1,32 +1,46 @@
+use crate::rows::Row;
 use case_lines::CaseFault;
 use lk_agg::{Acc, KeyRef};
-use lk_types::{GivenRow, KeyValue};
+use lk_types::KeyValue;
+use lk_val::{Value, ValueRef};
 use std::alloc::Global;
 
-/// The accumulator with the rows.
-pub fn add_owned(acc: Acc, rows: &[GivenRow]) -> Result<Acc, CaseFault> {
-    let mut acc = acc;
-    for row in rows {
-        acc.add(row.group.as_slice(), row.cells.as_slice(), row.place)?;
+/// Adds the rows to the accumulator.
+pub fn add_owned(rows: &[Row], acc: &mut Acc) -> Result<(), CaseFault> {
+    for (place, row) in rows.iter().enumerate() {
+        acc.add(row.group.as_slice(), row.cells.as_slice(), place as u64)?;
     }
-    Ok(acc)
+    Ok(())
 }
 
-/// The accumulator with the rows, whose values are lent to it.
-pub fn add_lent(alloc: Global, acc: Acc, rows: &[GivenRow]) -> Result<Acc, CaseFault> {
-    let mut acc = acc;
-    for row in rows {
-        let mut group = Vec::new(alloc);
-        for value in row.group.as_slice() {
-            group.push(value.as_ref())?;
-        }
-        let mut cells = Vec::new(alloc);
-        for given in row.cells.as_slice() {
-            cells.push(lend(given))?;
-        }
-        acc.add_refs(group.as_slice(), cells.as_slice(), row.place)?;
+/// Adds the rows to the accumulator, to which their values are lent.
+pub fn add_lent(alloc: Global, rows: &[Row], acc: &mut Acc) -> Result<(), CaseFault> {
+    for (place, row) in rows.iter().enumerate() {
+        lend_row(alloc, row, place as u64, acc)?;
     }
-    Ok(acc)
+    Ok(())
+}
+
+fn lend_row(alloc: Global, row: &Row, place: u64, acc: &mut Acc) -> Result<(), CaseFault> {
+    let group = lent_group(alloc, row.group.as_slice())?;
+    let cells = lent_cells(alloc, row.cells.as_slice())?;
+    Ok(acc.add_refs(group.as_slice(), cells.as_slice(), place)?)
+}
+
+fn lent_group(alloc: Global, values: &[Value]) -> Result<Vec<ValueRef<'_>>, CaseFault> {
+    let mut group = Vec::new(alloc);
+    for value in values {
+        group.push(value.as_ref())?;
+    }
+    Ok(group)
+}
+
+fn lent_cells(alloc: Global, given: &[KeyValue]) -> Result<Vec<KeyRef<'_>>, CaseFault> {
+    let mut cells = Vec::new(alloc);
+    for given in given {
+        cells.push(lend(given))?;
+    }
+    Ok(cells)
 }
 
 fn lend(given: &KeyValue) -> KeyRef<'_> {

@@ -1,5 +1,6 @@
-// Values and cells as a line writes them.
+// Values, cells and types of measures as a line writes them.
 
+use crate::lists::Listed;
 use case_lines::CaseFault;
 use lk_cell::{read_day, read_moment};
 use lk_types::{Op, Shape, print_cell};
@@ -27,31 +28,42 @@ pub fn value_of(alloc: Global, word: &str) -> Result<Value, NoMemory> {
     }
 }
 
-/// The type of a measure of a name.
-pub fn op_of(word: &str) -> Result<Op, CaseFault> {
-    match word {
-        "count" => Ok(Op::Count),
-        "count_distinct" => Ok(Op::CountDistinct),
-        "sum" => Ok(Op::Sum),
-        "average" => Ok(Op::Average),
-        "min" => Ok(Op::Min),
-        "max" => Ok(Op::Max),
-        "sum_distinct" => Ok(Op::SumDistinct),
-        "average_distinct" => Ok(Op::AverageDistinct),
-        "number" => Ok(Op::Number),
-        _ => Err(CaseFault::NoSuchCase),
+impl Listed for Op {
+    fn read(_: Global, text: &str) -> Result<Op, CaseFault> {
+        match text {
+            "count" => Ok(Op::Count),
+            "count_distinct" => Ok(Op::CountDistinct),
+            "sum" => Ok(Op::Sum),
+            "average" => Ok(Op::Average),
+            "min" => Ok(Op::Min),
+            "max" => Ok(Op::Max),
+            "sum_distinct" => Ok(Op::SumDistinct),
+            "average_distinct" => Ok(Op::AverageDistinct),
+            "number" => Ok(Op::Number),
+            _ => Err(CaseFault::NoSuchCase),
+        }
     }
 }
 
-/// The printed form of a cell, `null` for null.
-pub fn show_cell(alloc: Global, cell: &Cell) -> Result<Text, NoMemory> {
-    match cell {
-        Cell::Value(Value::Null) => Text::from_str(alloc, "null"),
-        _ => print_cell(alloc, cell, &Shape::Plain),
-    }
+/// Adds the printed form of a value, `null` for null.
+pub fn add_value(alloc: Global, value: &Value, line: &mut String) -> Result<(), CaseFault> {
+    let cell = Cell::Value(value.copy(alloc)?);
+    let added = add_cell(alloc, &cell, line);
+    // By name, since that is one call where the end of a block is one for each form.
+    drop(cell);
+    added
 }
 
-/// The printed form of a value, `null` for null.
-pub fn show_value(alloc: Global, value: &Value) -> Result<Text, NoMemory> {
-    show_cell(alloc, &Cell::Value(value.copy(alloc)?))
+/// Adds the printed form of a cell, `null` for null.
+pub fn add_cell(alloc: Global, cell: &Cell, line: &mut String) -> Result<(), CaseFault> {
+    if let Cell::Value(Value::Null) = cell {
+        return Ok(line.push_str("null")?);
+    }
+    add_text(print_cell(alloc, cell, &Shape::Plain), line)
+}
+
+/// Adds a text, if it was printed.
+pub fn add_text(text: Result<Text, NoMemory>, line: &mut String) -> Result<(), CaseFault> {
+    let text = text?;
+    Ok(line.push_str(text.as_str())?)
 }

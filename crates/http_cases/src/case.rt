@@ -1,33 +1,32 @@
-use crate::replies::{answer_memory, answer_reply, answer_room};
-use crate::streams::{answer_cuts, answer_fails, answer_read};
+use crate::replies::{add_memory, add_reply, add_room};
+use crate::streams::{add_cuts, add_fails, add_read};
 use case_lines::{CaseFault, written};
-use lk_val::Text;
 use std::alloc::Global;
 
-/// The answer of a line. `read BYTES` tells the items of a stream and how many bytes behind them are left, `cuts BYTES`
+/// Adds the answer of a line. `read BYTES` tells the items of a stream and how many bytes behind them are left, `cuts BYTES`
 /// the items of each front of it, and `fails BYTES` its items where one pull of it fails, for each. `reply STATUS json|csv
 /// open|closes | BODY` writes a reply, `room COUNT ..` does so where there is room for so many bytes, and `memory
 /// open|closes` writes the reply that memory was refused.
-pub fn answer_line(alloc: Global, line: &str) -> Result<Text, CaseFault> {
+pub fn add_answer(alloc: Global, line: &str, answer: &mut String) -> Result<(), CaseFault> {
     if line.is_empty() || line.starts_with("#") {
-        return Ok(Text::from_str(alloc, line)?);
+        return Ok(answer.push_str(line)?);
     }
-    let (task, rest) = parted(line);
+    let (task, rest) = line.split_once(" ").unwrap_or((line, ""));
     match task {
-        "read" => answer_read(alloc, written(alloc, rest)?),
-        "cuts" => answer_cuts(alloc, written(alloc, rest)?.as_slice()),
-        "fails" => answer_fails(alloc, written(alloc, rest)?.as_slice()),
-        "reply" => answer_reply(alloc, rest),
-        "room" => answer_room(alloc, rest),
-        "memory" => answer_memory(alloc, rest),
-        _ => Err(CaseFault::NoSuchCase),
+        "reply" => add_reply(alloc, rest, answer),
+        "room" => add_room(alloc, rest, answer),
+        "memory" => add_memory(alloc, rest, answer),
+        task => add_told(alloc, task, rest, answer),
     }
 }
 
-// The first word, and what follows it.
-fn parted(line: &str) -> (&str, &str) {
-    match line.split_once(" ") {
-        Some(parts) => parts,
-        None => (line, ""),
+// What is told of a stream of the bytes that are written.
+fn add_told(alloc: Global, task: &str, rest: &str, answer: &mut String) -> Result<(), CaseFault> {
+    let bytes = written(alloc, rest)?;
+    match task {
+        "read" => add_read(alloc, bytes, answer),
+        "cuts" => add_cuts(alloc, bytes.as_slice(), answer),
+        "fails" => add_fails(alloc, bytes.as_slice(), answer),
+        _ => Err(CaseFault::NoSuchCase),
     }
 }

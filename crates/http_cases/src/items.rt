@@ -1,9 +1,8 @@
-// The items of a stream, told as a line.
-use crate::printed::printed;
+// The items of a stream, told in a line.
+use crate::printed::add_printed;
 use case_lines::CaseFault;
 use lk_http::{Conn, Got, HttpFault, Request, Target, read_request};
 use lk_io::{MemLink, Source};
-use lk_val::{Bytes, Text, as_text};
 use std::alloc::Global;
 
 // The most items of a line.
@@ -12,94 +11,118 @@ const MOST_ITEMS: u32 = 100;
 // The longest body that is told byte by byte.
 const MOST_BYTES: usize = 100;
 
-/// The items of what a link gives, up to the first behind which nothing is read.
-pub fn items_of(alloc: Global, link: &mut MemLink) -> Result<Text, CaseFault> {
+/// Adds the items of what a link gives, up to the first behind which nothing is read.
+pub fn add_items(alloc: Global, link: &mut MemLink, line: &mut String) -> Result<(), CaseFault> {
     let mut conn = Conn::new(alloc)?;
-    let mut line = Bytes::new(alloc);
-    for number in 0..MOST_ITEMS {
-        let item = next(alloc, link, &mut conn);
-        if number > 0 {
-            line.append(b"; ")?;
-        }
-        line.append(item_text(alloc, &item)?.as_bytes())?;
-        if ends(&item) {
+    let added = add_all(alloc, link, &mut conn, line);
+    // By name, since that is one call where the end of a block is one for each field.
+    drop(conn);
+    added
+}
+
+fn add_all(
+    alloc: Global,
+    link: &mut MemLink,
+    conn: &mut Conn,
+    line: &mut String,
+) -> Result<(), CaseFault> {
+    let mut between = "";
+    for _ in 0..MOST_ITEMS {
+        line.push_str(between)?;
+        if add_next(alloc, link, conn, line)? {
             break;
         }
+        between = "; ";
     }
-    let text = as_text(line.as_slice()).ok_or(CaseFault::NoSuchCase)?;
-    Ok(Text::from_str(alloc, text)?)
+    Ok(())
 }
 
-fn next(alloc: Global, link: &mut MemLink, conn: &mut Conn) -> Result<Got, HttpFault> {
-    read_request(alloc, link, conn)
+// Adds the next item, and answers whether nothing is read behind it.
+fn add_next(
+    alloc: Global,
+    link: &mut MemLink,
+    conn: &mut Conn,
+    line: &mut String,
+) -> Result<bool, CaseFault> {
+    let item = read_request(alloc, link, conn);
+    let is_last = add_item(&item, line);
+    // By name, since that is one call where the end of a block is one for each form.
+    drop(item);
+    is_last
 }
 
-// Whether nothing is read behind an item.
-fn ends(item: &Result<Got, HttpFault>) -> bool {
+fn add_item(item: &Result<Got, HttpFault>, line: &mut String) -> Result<bool, CaseFault> {
     match item {
-        Ok(Got::Req(request)) => request.close,
-        Err(HttpFault::H4(close)) | Err(HttpFault::H5(close)) => *close,
-        _ => true,
+        Ok(Got::End) => {
+            line.push_str("end")?;
+            Ok(true)
+        }
+        Ok(Got::Req(request)) => add_request(request, line),
+        Err(fault) => add_fault(*fault, line),
     }
 }
 
-fn item_text(alloc: Global, item: &Result<Got, HttpFault>) -> Result<Text, CaseFault> {
-    match item {
-        Ok(Got::End) => Ok(Text::from_str(alloc, "end")?),
-        Ok(Got::Req(request)) => request_text(alloc, request),
-        Err(fault) => fault_text(alloc, *fault),
-    }
-}
-
-fn fault_text(alloc: Global, fault: HttpFault) -> Result<Text, CaseFault> {
+fn add_fault(fault: HttpFault, line: &mut String) -> Result<bool, CaseFault> {
+    line.push_str(name_of(fault))?;
     match fault {
-        HttpFault::H3(count) => Ok(Text::from_string(format!(in alloc; "H3 {count}")?)),
-        HttpFault::H1 => Ok(Text::from_str(alloc, "H1")?),
-        HttpFault::H2 => Ok(Text::from_str(alloc, "H2")?),
-        HttpFault::H4(close) => coded(alloc, "H4", close),
-        HttpFault::H5(close) => coded(alloc, "H5", close),
-        HttpFault::H6 => Ok(Text::from_str(alloc, "H6")?),
-        HttpFault::Truncated => Ok(Text::from_str(alloc, "truncated")?),
-        HttpFault::ReadFault => Ok(Text::from_str(alloc, "read fault")?),
-        HttpFault::NoMemory => Err(CaseFault::NoMemory),
+        HttpFault::H3(count) => write!(line, " {count}")?,
+        HttpFault::H4(close) | HttpFault::H5(close) => return add_closes(close, line),
+        HttpFault::NoMemory => return Err(CaseFault::NoMemory),
+        _ => {}
+    }
+    Ok(true)
+}
+
+fn name_of(fault: HttpFault) -> &'static str {
+    match fault {
+        HttpFault::H1 => "H1",
+        HttpFault::H2 => "H2",
+        HttpFault::H3(_) => "H3",
+        HttpFault::H4(_) => "H4",
+        HttpFault::H5(_) => "H5",
+        HttpFault::H6 => "H6",
+        HttpFault::Truncated => "truncated",
+        HttpFault::ReadFault => "read fault",
+        HttpFault::NoMemory => "no memory",
     }
 }
 
-fn coded(alloc: Global, code: &str, close: bool) -> Result<Text, CaseFault> {
-    let closes = if close { ", closes" } else { "" };
-    Ok(Text::from_string(format!(in alloc; "{code}{closes}")?))
+fn add_request(request: &Request, line: &mut String) -> Result<bool, CaseFault> {
+    add_target(&request.target, line)?;
+    line.push_str(" by ")?;
+    add_printed(request.user.as_bytes(), line)?;
+    line.push_str(" with ")?;
+    add_body(request.body.as_slice(), line)?;
+    add_closes(request.close, line)
 }
 
-fn request_text(alloc: Global, request: &Request) -> Result<Text, CaseFault> {
-    let target = target_text(alloc, &request.target)?;
-    let user = printed(alloc, request.user.as_bytes())?;
-    let body = body_text(alloc, request.body.as_slice())?;
-    let (target, user, body) = (target.as_str(), user.as_str(), body.as_str());
-    let closes = if request.close { ", closes" } else { "" };
-    Ok(Text::from_string(format!(in alloc; "{target} by {user} with {body}{closes}")?))
+// Adds that a connection closes behind an item, where it does, and answers whether it does.
+fn add_closes(close: bool, line: &mut String) -> Result<bool, CaseFault> {
+    line.push_str(if close { ", closes" } else { "" })?;
+    Ok(close)
 }
 
-fn target_text(alloc: Global, target: &Target) -> Result<Text, CaseFault> {
+fn add_target(target: &Target, line: &mut String) -> Result<(), CaseFault> {
     match target {
-        Target::Check => Ok(Text::from_str(alloc, "check")?),
+        Target::Check => Ok(line.push_str("check")?),
         Target::Query(explore) => {
             let explore = explore.as_str();
-            Ok(Text::from_string(format!(in alloc; "query {explore}")?))
+            Ok(write!(line, "query {explore}")?)
         }
         Target::Load(table, replaces, id) => {
             let mode = if *replaces { "replace" } else { "append" };
             let (table, id) = (table.as_str(), id.as_str());
-            Ok(Text::from_string(format!(in alloc; "load {table} {mode} {id}")?))
+            Ok(write!(line, "load {table} {mode} {id}")?)
         }
     }
 }
 
-fn body_text(alloc: Global, body: &[u8]) -> Result<Text, CaseFault> {
+fn add_body(body: &[u8], line: &mut String) -> Result<(), CaseFault> {
     if body.len() <= MOST_BYTES {
-        return printed(alloc, body);
+        return add_printed(body, line);
     }
     let count = body.len();
-    Ok(Text::from_string(format!(in alloc; "{count} bytes")?))
+    Ok(write!(line, "{count} bytes")?)
 }
 
 /// How many bytes a link has left, which it takes.

@@ -8,19 +8,24 @@ mod printed;
 mod replies;
 mod streams;
 
-use case::answer_line;
+use case::add_answer;
 use std::io;
 
 fn main(rt: HostRuntime) -> io::Result<()> {
     for line in rt.lines(rt.alloc()) {
         let line = line?;
-        match answer_line(rt.alloc(), line.as_str()) {
-            Ok(answer) => {
-                let answer = answer.as_str();
-                println!(rt; "{answer}")?;
-            }
-            Err(fault) => println!(rt; "{fault}")?,
-        }
+        print_answer(&rt, line.as_str())?;
     }
     Ok(())
+}
+
+fn print_answer(rt: &HostRuntime, line: &str) -> io::Result<()> {
+    let mut answer = String::new(rt.alloc());
+    match add_answer(rt.alloc(), line, &mut answer) {
+        Ok(()) => {
+            let answer = answer.as_str();
+            println!(rt; "{answer}")
+        }
+        Err(fault) => println!(rt; "{fault}"),
+    }
 }

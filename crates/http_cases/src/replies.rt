@@ -1,75 +1,94 @@
 // What goes out for a reply.
-use crate::printed::printed;
+use crate::printed::add_printed;
 use case_lines::{CaseFault, written};
 use lk_http::{write_memory, write_reply};
 use lk_io::{Failed, MemLink};
 use lk_types::Reply;
-use lk_val::{Bytes, Items, Text};
+use lk_val::{Bytes, Items, NoMemory};
 use std::alloc::Global;
 
 // The room of a link where no line says another.
 const ROOM: usize = 65_536;
 
-/// What goes out for the reply `STATUS json|csv open|closes | BODY`.
-pub fn answer_reply(alloc: Global, rest: &str) -> Result<Text, CaseFault> {
-    answer_within(alloc, ROOM, rest)
+/// Adds what goes out for the reply `STATUS json|csv open|closes | BODY`.
+pub fn add_reply(alloc: Global, rest: &str, line: &mut String) -> Result<(), CaseFault> {
+    add_within(alloc, ROOM, rest, line)
 }
 
-/// What goes out for a reply where there is room for so many bytes: `COUNT STATUS json|csv open|closes | BODY`.
-pub fn answer_room(alloc: Global, rest: &str) -> Result<Text, CaseFault> {
-    let (room, rest) = rest.split_once(" ").ok_or(CaseFault::NoSuchCase)?;
-    let room = room.parse::<usize>().ok().ok_or(CaseFault::NoSuchCase)?;
-    answer_within(alloc, room, rest)
-}
-
-/// What goes out where memory was refused: `open` or `closes`.
-pub fn answer_memory(alloc: Global, close: &str) -> Result<Text, CaseFault> {
-    let mut link = link_of(alloc, ROOM)?;
-    let sent = put_memory(&mut link, close == "closes");
-    outcome(alloc, &link, sent)
-}
-
-fn answer_within(alloc: Global, room: usize, rest: &str) -> Result<Text, CaseFault> {
-    let (words, body) = rest.split_once(" | ").ok_or(CaseFault::NoSuchCase)?;
-    let words: Vec<&str> = words.split(' ').collect(alloc)?;
-    let [status, kind, close] = words.as_slice() else {
+/// Adds what goes out for a reply where there is room for so many bytes: `COUNT STATUS json|csv open|closes | BODY`.
+pub fn add_room(alloc: Global, rest: &str, line: &mut String) -> Result<(), CaseFault> {
+    let Some((room, rest)) = rest.split_once(" ") else {
         return Err(CaseFault::NoSuchCase);
     };
-    let reply = Reply {
-        status: status.parse::<u16>().ok().ok_or(CaseFault::NoSuchCase)?,
-        csv: *kind == "csv",
-        body: written(alloc, body)?,
+    let room = room.parse::<usize>().or(Err(CaseFault::NoSuchCase))?;
+    add_within(alloc, room, rest, line)
+}
+
+/// Adds what goes out where memory was refused: `open` or `closes`.
+pub fn add_memory(alloc: Global, close: &str, line: &mut String) -> Result<(), CaseFault> {
+    let mut link = link_of(alloc, ROOM)?;
+    let sent = write_memory(&mut link, close == "closes");
+    let added = add_outcome(&link, sent, line);
+    // By name, since that is one call where the end of a block is one for each field.
+    drop(link);
+    added
+}
+
+fn add_within(alloc: Global, room: usize, rest: &str, line: &mut String) -> Result<(), CaseFault> {
+    let Some((words, body)) = rest.split_once(" | ") else {
+        return Err(CaseFault::NoSuchCase);
     };
+    let Some((words, close)) = words.rsplit_once(" ") else {
+        return Err(CaseFault::NoSuchCase);
+    };
+    let reply = reply_of(alloc, words, body)?;
     let mut link = link_of(alloc, room)?;
-    let sent = put(&mut link, &reply, *close == "closes").ok_or(CaseFault::NoSuchCase)?;
-    outcome(alloc, &link, sent)
+    let added = add_sent(&mut link, &reply, close == "closes", line);
+    drop(link);
+    added
 }
 
-fn link_of(alloc: Global, room: usize) -> Result<MemLink, CaseFault> {
-    let none = Bytes::new(alloc);
-    Ok(MemLink::new(alloc, none, room, Items::new(alloc), Items::new(alloc))?)
+// The reply of a status and a format.
+fn reply_of(alloc: Global, words: &str, body: &str) -> Result<Reply, CaseFault> {
+    let Some((status, format)) = words.split_once(" ") else {
+        return Err(CaseFault::NoSuchCase);
+    };
+    Ok(Reply {
+        status: status.parse::<u16>().or(Err(CaseFault::NoSuchCase))?,
+        csv: format == "csv",
+        body: written(alloc, body)?,
+    })
 }
 
-// None where no reply has the status.
-fn put(link: &mut MemLink, reply: &Reply, close: bool) -> Option<Result<(), Failed>> {
+// No such case where no reply has the status.
+fn add_sent(
+    link: &mut MemLink,
+    reply: &Reply,
+    close: bool,
+    line: &mut String,
+) -> Result<(), CaseFault> {
     match reply.status {
         200 | 400 | 403 | 404 | 405 | 409 | 411 | 413 | 431 | 503 | 507 => {
-            Some(write_reply(link, reply, close))
+            let sent = write_reply(link, reply, close);
+            add_outcome(link, sent, line)
         }
-        _ => None,
+        _ => Err(CaseFault::NoSuchCase),
     }
 }
 
-fn put_memory(link: &mut MemLink, close: bool) -> Result<(), Failed> {
-    write_memory(link, close)
+fn link_of(alloc: Global, room: usize) -> Result<MemLink, NoMemory> {
+    let none = Bytes::new(alloc);
+    MemLink::new(alloc, none, room, Items::new(alloc), Items::new(alloc))
 }
 
-fn outcome(alloc: Global, link: &MemLink, sent: Result<(), Failed>) -> Result<Text, CaseFault> {
-    let bytes = printed(alloc, link.held())?;
-    let bytes = bytes.as_str();
-    let faults = link.write_faults();
-    match sent {
-        Ok(()) => Ok(Text::from_string(format!(in alloc; "{bytes}")?)),
-        Err(Failed) => Ok(Text::from_string(format!(in alloc; "failed ({faults}): {bytes}")?)),
+fn add_outcome(
+    link: &MemLink,
+    sent: Result<(), Failed>,
+    line: &mut String,
+) -> Result<(), CaseFault> {
+    if sent.is_err() {
+        let faults = link.write_faults();
+        write!(line, "failed ({faults}): ")?;
     }
+    add_printed(link.held(), line)
 }

@@ -1,78 +1,95 @@
 // The items of a stream, of its fronts, and where its pulls fail.
-use crate::items::{items_of, left_in};
+use crate::items::{add_items, left_in};
 use case_lines::CaseFault;
 use lk_io::MemLink;
-use lk_val::{Bytes, Items, Text};
+use lk_val::{Bytes, Items, NoMemory};
 use std::alloc::Global;
 
-/// The items of a stream, and how many bytes behind the last are left.
-pub fn answer_read(alloc: Global, bytes: Bytes) -> Result<Text, CaseFault> {
+/// Adds the items of a stream, and how many bytes behind the last are left.
+pub fn add_read(alloc: Global, bytes: Bytes, line: &mut String) -> Result<(), CaseFault> {
     let mut link = link_over(alloc, bytes, Items::new(alloc))?;
-    let items = items_of(alloc, &mut link)?;
-    let left = left_in(&mut link);
-    let items = items.as_str();
-    if left == 0 {
-        Ok(Text::from_str(alloc, items)?)
-    } else {
-        Ok(Text::from_string(format!(in alloc; "{items}; {left} left")?))
+    add_whole(alloc, &mut link, line)
+}
+
+fn add_whole(alloc: Global, link: &mut MemLink, line: &mut String) -> Result<(), CaseFault> {
+    add_items(alloc, link, line)?;
+    match left_in(link) {
+        0 => Ok(()),
+        left => Ok(write!(line, "; {left} left")?),
     }
 }
 
-/// The items of each front of a stream, told where they change.
-pub fn answer_cuts(alloc: Global, bytes: &[u8]) -> Result<Text, CaseFault> {
-    let mut changes = Changes::none(alloc);
+/// Adds the items of each front of a stream, where they change.
+pub fn add_cuts(alloc: Global, bytes: &[u8], line: &mut String) -> Result<(), CaseFault> {
+    let mut last = String::new(alloc);
     for count in 0..=bytes.len() {
-        let front = Bytes::from_slice(alloc, &bytes[..count])?;
-        let mut link = link_over(alloc, front, Items::new(alloc))?;
-        changes.add(alloc, count, items_of(alloc, &mut link)?)?;
+        add_front(alloc, &bytes[..count], &mut last, line)?;
     }
-    Ok(changes.line)
+    Ok(())
 }
 
-/// The items of a stream of which one pull fails, told where they change with its number.
-pub fn answer_fails(alloc: Global, bytes: &[u8]) -> Result<Text, CaseFault> {
-    let mut changes = Changes::none(alloc);
+fn add_front(
+    alloc: Global,
+    front: &[u8],
+    last: &mut String,
+    line: &mut String,
+) -> Result<(), CaseFault> {
+    let bytes = Bytes::from_slice(alloc, front)?;
+    let mut link = link_over(alloc, bytes, Items::new(alloc))?;
+    add_changed(alloc, &mut link, front.len(), last, line)
+}
+
+/// Adds the items of a stream of which one pull fails, where they change with its number.
+pub fn add_fails(alloc: Global, bytes: &[u8], line: &mut String) -> Result<(), CaseFault> {
+    let mut last = String::new(alloc);
     for number in 0..=bytes.len() {
-        let mut failing = Items::new(alloc);
-        failing.push(number as u64)?;
-        let mut link = link_over(alloc, Bytes::from_slice(alloc, bytes)?, failing)?;
-        changes.add(alloc, number, items_of(alloc, &mut link)?)?;
+        add_failing(alloc, bytes, number, &mut last, line)?;
     }
-    Ok(changes.line)
+    Ok(())
 }
 
-fn link_over(alloc: Global, bytes: Bytes, failing: Items<u64>) -> Result<MemLink, CaseFault> {
-    Ok(MemLink::new(alloc, bytes, 0, failing, Items::new(alloc))?)
+fn add_failing(
+    alloc: Global,
+    bytes: &[u8],
+    number: usize,
+    last: &mut String,
+    line: &mut String,
+) -> Result<(), CaseFault> {
+    let bytes = Bytes::from_slice(alloc, bytes)?;
+    let mut failing = Items::new(alloc);
+    failing.push(number as u64)?;
+    let mut link = link_over(alloc, bytes, failing)?;
+    add_changed(alloc, &mut link, number, last, line)
 }
 
-// Answers by their numbers: the line tells each that differs from the one before.
-#[derive(Drop)]
-struct Changes {
-    line: Text,
-    last: Text,
+fn link_over(alloc: Global, bytes: Bytes, failing: Items<u64>) -> Result<MemLink, NoMemory> {
+    MemLink::new(alloc, bytes, 0, failing, Items::new(alloc))
 }
 
-impl Changes {
-    fn none(alloc: Global) -> Changes {
-        Changes {
-            line: Text::new(alloc),
-            last: Text::new(alloc),
-        }
-    }
+fn add_changed(
+    alloc: Global,
+    link: &mut MemLink,
+    number: usize,
+    last: &mut String,
+    line: &mut String,
+) -> Result<(), CaseFault> {
+    let mut items = String::new(alloc);
+    add_items(alloc, link, &mut items)?;
+    add_if_other(items.as_str(), number, last, line)
+}
 
-    fn add(&mut self, alloc: Global, number: usize, answer: Text) -> Result<(), CaseFault> {
-        if answer.as_str() == self.last.as_str() {
-            return Ok(());
-        }
-        let bar = if self.line.as_str().is_empty() {
-            ""
-        } else {
-            " | "
-        };
-        let line = self.line.as_str();
-        let text = answer.as_str();
-        self.line = Text::from_string(format!(in alloc; "{line}{bar}from {number} {text}")?);
-        self.last = answer;
-        Ok(())
+// Adds items behind their number, where they differ from the last ones.
+fn add_if_other(
+    items: &str,
+    number: usize,
+    last: &mut String,
+    line: &mut String,
+) -> Result<(), CaseFault> {
+    if items == last.as_str() {
+        return Ok(());
     }
+    let bar = if line.is_empty() { "" } else { " | " };
+    write!(line, "{bar}from {number} {items}")?;
+    last.clear();
+    Ok(last.push_str(items)?)
 }

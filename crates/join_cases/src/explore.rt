@@ -1,28 +1,26 @@
-ghost use Rattle.std.specs.Prelude.{◌≡◌, ◌+◌, IfOk, Some, length, true};
+ghost use Rattle.std.specs.Prelude.{◌≡◌, ◌+◌, IfOk, length, true};
 ghost use Rattle.std.specs.List.{All};
-ghost use Rattle.lk_types.specs.FormulaNodes.{arity};
 ghost use Rattle.lk_semantics.specs.DatedRows.{are_joins_dated, is_condition_dated};
 
+use crate::condition::push_condition;
 use case_lines::CaseFault;
 use lk_eval::are_literals_dated;
-use lk_types::{
-    Arithmetic, Comparison, Explore, Expr, Frame, Join, JoinKind, Node, Origin, Part, Relation,
-};
-use lk_val::{Items, Num, Text, Value};
+use lk_types::{Explore, Expr, Join, JoinKind, Origin, Part, Relation};
+use lk_val::{Items, NoMemory, Text};
 use std::alloc::Global;
 
 /// An explore of so many views, each over the table of its number, and of joins with their conditions.
-pub fn explore_of(alloc: Global, joins: &str, tables: usize) -> Result<Explore, CaseFault>
+pub fn explore_of(alloc: Global, joins: &[&str], views: u32) -> Result<Explore, CaseFault>
     ensures parts { IfOk result (λ explore. length explore.parts ≡ length explore.joins + 1) }
     ensures conditions { IfOk result (λ explore. are_joins_dated explore ≡ true) }
 {
-    let parts = parts_of(alloc, tables)?;
     let joins = joins_of(alloc, joins)?;
+    let parts = parts_of(alloc, views)?;
     if parts.len() != joins.len() + 1 {
         return Err(CaseFault::NoSuchCase);
     }
     Ok(Explore {
-        name: Text::from_str(alloc, "tables")?,
+        name: Text::new(alloc),
         parts,
         joins,
         fields: Items::new(alloc),
@@ -35,12 +33,12 @@ pub fn explore_of(alloc: Global, joins: &str, tables: usize) -> Result<Explore, 
     })
 }
 
-fn parts_of(alloc: Global, count: usize) -> Result<Items<Part>, CaseFault> {
+fn parts_of(alloc: Global, count: u32) -> Result<Items<Part>, NoMemory> {
     let mut parts = Items::new(alloc);
     for number in 0..count {
         parts.push(Part {
-            name: Text::from_str(alloc, "table")?,
-            origin: Origin::Derived(u32::try_from(number).or(Err(CaseFault::NoSuchCase))?),
+            name: Text::new(alloc),
+            origin: Origin::Derived(number),
             key: None,
             enforced: None,
         })?;
@@ -48,11 +46,11 @@ fn parts_of(alloc: Global, count: usize) -> Result<Items<Part>, CaseFault> {
     Ok(parts)
 }
 
-fn joins_of(alloc: Global, text: &str) -> Result<Items<Join>, CaseFault>
+fn joins_of(alloc: Global, words: &[&str]) -> Result<Items<Join>, CaseFault>
     ensures { IfOk result (λ joins. All (λ join. is_condition_dated join.on ≡ true) joins) }
 {
     let mut joins = Items::new(alloc);
-    for word in text.split(',') {
+    for word in words {
         joins.push(join_of(alloc, word.trim())?)?;
     }
     Ok(joins)
@@ -62,10 +60,9 @@ fn joins_of(alloc: Global, text: &str) -> Result<Items<Join>, CaseFault>
 fn join_of(alloc: Global, text: &str) -> Result<Join, CaseFault>
     ensures { IfOk result (λ join. is_condition_dated join.on ≡ true) }
 {
-    let (kind, on) = match text.split_once(' ') {
-        None => (kind_of(text)?, None),
-        Some((kind, condition)) => (kind_of(kind)?, Some(condition_of(alloc, condition)?)),
-    };
+    let (kind, condition) = text.split_once(' ').unwrap_or((text, ""));
+    let kind = kind_of(kind)?;
+    let on = condition_of(alloc, condition)?;
     Ok(Join {
         kind,
         relation: Relation::ManyToMany,
@@ -84,88 +81,21 @@ fn kind_of(word: &str) -> Result<JoinKind, CaseFault> {
     }
 }
 
-// Alternatives of which each is some conjuncts, as `0.0=1.0 and 0.1<1.1 or 1.0=5`.
-fn condition_of(alloc: Global, text: &str) -> Result<Expr, CaseFault>
-    ensures { IfOk result (λ e. is_condition_dated (Some e) ≡ true) }
+// No condition where the text is empty.
+fn condition_of(alloc: Global, text: &str) -> Result<Option<Expr>, CaseFault>
+    ensures { IfOk result (λ condition. is_condition_dated condition ≡ true) }
 {
-    let mut condition = None;
-    for alternative in text.split(" or ") {
-        let next = conjuncts_of(alloc, alternative)?;
-        condition = Some(behind(Node::Or, condition, next)?);
+    if text.is_empty() {
+        return Ok(None);
     }
-    match condition {
-        Some(e) if are_literals_dated(&e) => Ok(e),
-        _ => Err(CaseFault::NoSuchCase),
-    }
-}
-
-fn conjuncts_of(alloc: Global, text: &str) -> Result<Expr, CaseFault> {
-    let mut condition = None;
-    for conjunct in text.split(" and ") {
-        let next = compared(alloc, conjunct)?;
-        condition = Some(behind(Node::And, condition, next)?);
-    }
-    condition.ok_or(CaseFault::NoSuchCase)
-}
-
-// A condition behind those before it, if there are any.
-fn behind(node: Node, before: Option<Expr>, next: Expr) -> Result<Expr, CaseFault>
-    requires { arity node ≡ 2 }
-{
-    match before {
-        None => Ok(next),
-        Some(before) => Ok(Expr::binary(node, before, next)?),
-    }
-}
-
-// Two sides that are equal, or of which the first is less.
-fn compared(alloc: Global, text: &str) -> Result<Expr, CaseFault> {
-    let (comparison, sides) = match text.split_once('=') {
-        Some(sides) => (Comparison::Equal, sides),
-        None => {
-            let sides = text.split_once('<').ok_or(CaseFault::NoSuchCase)?;
-            (Comparison::Less, sides)
-        }
+    let mut nodes = Items::new(alloc);
+    push_condition(text, &mut nodes)?;
+    let Some(condition) = Expr::from_nodes(nodes) else {
+        return Err(CaseFault::NoSuchCase);
     };
-    let left = sum_of(alloc, sides.0)?;
-    let right = sum_of(alloc, sides.1)?;
-    Ok(Expr::binary(Node::Compare(comparison), left, right)?)
-}
-
-// A term, or the sum of two.
-fn sum_of(alloc: Global, text: &str) -> Result<Expr, CaseFault> {
-    let Some((left, right)) = text.split_once('+') else {
-        return term_of(alloc, text);
-    };
-    let left = term_of(alloc, left)?;
-    let right = term_of(alloc, right)?;
-    Ok(Expr::binary(Node::Number(Arithmetic::Plus), left, right)?)
-}
-
-// A column, `lower(..)` or `date(..)` of a column, or a number without a point.
-fn term_of(alloc: Global, text: &str) -> Result<Expr, CaseFault> {
-    if let Some(rest) = text.strip_prefix("lower(") {
-        return Ok(Expr::unary(Node::Lower, inside(alloc, rest)?)?);
+    if are_literals_dated(&condition) {
+        Ok(Some(condition))
+    } else {
+        Err(CaseFault::NoSuchCase)
     }
-    if let Some(rest) = text.strip_prefix("date(") {
-        return Ok(Expr::unary(Node::Framed(Frame::Date), inside(alloc, rest)?)?);
-    }
-    if text.contains('.') {
-        return column_of(alloc, text);
-    }
-    let number = Num::read(text.as_bytes()).or(Err(CaseFault::NoSuchCase))?;
-    Ok(Expr::leaf(alloc, Node::Literal(Value::Num(number)))?)
-}
-
-// The column before a closing bracket.
-fn inside(alloc: Global, text: &str) -> Result<Expr, CaseFault> {
-    column_of(alloc, text.strip_suffix(")").ok_or(CaseFault::NoSuchCase)?)
-}
-
-// A column as the numbers of its view and its place there.
-fn column_of(alloc: Global, text: &str) -> Result<Expr, CaseFault> {
-    let (part, column) = text.split_once('.').ok_or(CaseFault::NoSuchCase)?;
-    let part = part.parse::<u32>().or(Err(CaseFault::NoSuchCase))?;
-    let column = column.parse::<u32>().or(Err(CaseFault::NoSuchCase))?;
-    Ok(Expr::leaf(alloc, Node::Column(part, column))?)
 }

@@ -1,7 +1,6 @@
 ghost use Rattle.std.specs.Prelude.{◌≡◌, ◌∷◌, [], IfOk, true};
 ghost use Rattle.lk_types.specs.Dates.{are_literals_dated};
 
-use case_lines::CaseFault;
 use lk_types::{Bound, Explore, Expr, Model, Node, Plan, Schema};
 use lk_val::{Items, NoMemory, Value};
 use std::alloc::Global;
@@ -23,29 +22,36 @@ pub fn model_of(alloc: Global, explore: Explore) -> Result<Model, NoMemory>
 }
 
 /// The plan of all of so many joins of the first explore, over every row.
-pub fn plan_of(alloc: Global, joins: usize) -> Result<Plan, CaseFault>
+pub fn plan_of(alloc: Global, joins: u32) -> Result<Plan, NoMemory>
     ensures explore { IfOk result (λ plan. plan.bound.explore ≡ 0) }
     ensures visible { IfOk result (λ plan. are_literals_dated plan.visible ≡ true) }
 {
+    let joins = numbers_below(alloc, joins)?;
+    let visible = always(alloc)?;
+    let passing = always(alloc)?;
     Ok(Plan {
-        bound: bound_of(alloc, joins)?,
-        visible: always(alloc)?,
-        passing: always(alloc)?,
+        bound: bound_of(alloc, joins),
+        visible,
+        passing,
         fanned: Items::new(alloc),
     })
 }
 
-fn bound_of(alloc: Global, joins: usize) -> Result<Bound, CaseFault>
-    ensures { IfOk result (λ bound. bound.explore ≡ 0) }
-{
+fn numbers_below(alloc: Global, count: u32) -> Result<Items<u32>, NoMemory> {
     let mut numbers = Items::new(alloc);
-    for number in 0..joins {
-        numbers.push(u32::try_from(number).or(Err(CaseFault::NoSuchCase))?)?;
+    for number in 0..count {
+        numbers.push(number)?;
     }
-    Ok(Bound {
+    Ok(numbers)
+}
+
+fn bound_of(alloc: Global, joins: Items<u32>) -> Bound
+    ensures { result.explore ≡ 0 }
+{
+    Bound {
         explore: 0,
         picks: Items::new(alloc),
-        joins: numbers,
+        joins,
         access: Items::new(alloc),
         rows: Items::new(alloc),
         having: Items::new(alloc),
@@ -53,7 +59,7 @@ fn bound_of(alloc: Global, joins: usize) -> Result<Bound, CaseFault>
         limit: 500,
         fresh: false,
         csv: false,
-    })
+    }
 }
 
 // The condition that every row passes.

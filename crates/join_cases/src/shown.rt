@@ -1,13 +1,13 @@
 use lk_exec::Visit;
 use lk_types::{Joined, Shape, print_cell};
-use lk_val::{Bytes, Cell, NoMemory, Text, Value};
+use lk_val::{Cell, NoMemory, Value};
 use std::alloc::Global;
 
 /// What is shown of the rows that were visited.
 #[derive(Drop)]
 pub struct Shown {
     alloc: Global,
-    line: Bytes,
+    line: String,
 }
 
 impl Shown {
@@ -15,42 +15,43 @@ impl Shown {
     pub fn new(alloc: Global) -> Shown {
         Shown {
             alloc,
-            line: Bytes::new(alloc),
+            line: String::new(alloc),
         }
     }
 
     /// The rows, with commas between them.
-    pub fn into_text(self, alloc: Global) -> Result<Text, NoMemory> {
-        if self.line.len() == 0 {
-            return Text::from_str(alloc, "no rows");
-        }
-        match Text::from_utf8(alloc, self.line.as_slice())? {
-            None => Err(NoMemory),
-            Some(text) => Ok(text),
+    pub fn rows(&self) -> &str {
+        if self.line.is_empty() {
+            "no rows"
+        } else {
+            self.line.as_str()
         }
     }
 
     fn add_word(&mut self, word: &str) -> Result<(), NoMemory> {
-        if self.line.len() > 0 {
-            self.line.append(b" ")?;
+        if !self.line.is_empty() {
+            self.line.push_str(" ")?;
         }
-        self.line.append(word.as_bytes())
+        Ok(self.line.push_str(word)?)
     }
 
     fn add_cells(&mut self, cells: &[Value]) -> Result<(), NoMemory> {
         for cell in cells {
-            let word = show_value(self.alloc, cell)?;
-            self.add_word(word.as_str())?;
+            self.add_value(cell)?;
         }
         Ok(())
     }
-}
 
-// The printed form of a value, `null` for null.
-fn show_value(alloc: Global, value: &Value) -> Result<Text, NoMemory> {
-    match value {
-        Value::Null => Text::from_str(alloc, "null"),
-        _ => print_cell(alloc, &Cell::Value(value.copy(alloc)?), &Shape::Plain),
+    // The printed form of a value, `null` for null.
+    fn add_value(&mut self, value: &Value) -> Result<(), NoMemory> {
+        if let Value::Null = value {
+            return self.add_word("null");
+        }
+        let cell = Cell::Value(value.copy(self.alloc)?);
+        let text = print_cell(self.alloc, &cell, &Shape::Plain);
+        // By name, since that is one call where the end of a block is one for each form.
+        drop(cell);
+        self.add_word(text?.as_str())
     }
 }
 
@@ -61,8 +62,8 @@ impl Visit for Shown {
     ghost has_seen = { λ start visitor rows. Unit {0} };
 
     fn row(&mut self, row: &Joined, _place: u64) -> Result<(), NoMemory> {
-        if self.line.len() > 0 {
-            self.line.append(b",")?;
+        if !self.line.is_empty() {
+            self.line.push_str(",")?;
         }
         for part in row.parts.as_slice() {
             match part {
