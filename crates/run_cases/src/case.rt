@@ -135,7 +135,7 @@ fn answer_over<F: Files>(
     let ended = run_with(alloc, base, files, words, &mut streams)?;
     let status = ended.status;
     base.keeper = Some(ended.keeper);
-    answer_of(alloc, status, &streams.out)
+    answer_of(alloc, status, &streams.out, base.outside.end)
 }
 
 fn run_with<F: Files>(

@@ -1,7 +1,8 @@
 // What stands around the runs of the lines behind a line, and what of it fails. The fields are `input 1 fails`,
-// `output 2 fails` and `store 0 fails`, which let a call fail, counted from 0; `room of 20 bytes` for the output; `body of
-// 5 bytes`, which puts spaces behind the body; `store of 3 loads`, of one row each, whose batches are gone; `batch TABLE of
-// TEXT`, one load more of one row, whose batch is there; and `store at 9`, whose number is 9 where its loads are fewer.
+// `output 2 fails` and `store 0 fails`, which let a call fail, counted from 0; `room of 20 bytes` for the output, and `end of
+// 20 bytes`, which shows no more of what was written; `body of 5 bytes`, which puts spaces behind the body, and `body 5
+// times`; `store of 3 loads`, of one row each, whose batches are gone; `batch TABLE of TEXT`, one load more of one row, whose
+// batch is there; and `store at 9`, whose number is 9 where its loads are fewer.
 
 use case_lines::{CaseFault, written};
 use lk_keep::{Chunk, Kept, KeptId, MemKeeper};
@@ -20,7 +21,9 @@ pub struct Outside {
     pub output: Vec<u64>,
     pub store: Vec<u64>,
     pub room: usize,
+    pub end: usize,
     pub body: usize,
+    pub copies: usize,
     pub loads: u64,
     pub number: u64,
     pub batches: Vec<Chunk>,
@@ -34,7 +37,9 @@ impl Outside {
             output: Vec::new(alloc),
             store: Vec::new(alloc),
             room: ROOM,
+            end: MOST,
             body: 0,
+            copies: 1,
             loads: 0,
             number: 0,
             batches: Vec::new(alloc),
@@ -61,8 +66,12 @@ impl Outside {
             self.store.push(number)?;
         } else if let Some(size) = size_in(field, "room of ", " bytes") {
             self.room = size;
+        } else if let Some(size) = size_in(field, "end of ", " bytes") {
+            self.end = size;
         } else if let Some(size) = size_in(field, "body of ", " bytes") {
             self.body = size;
+        } else if let Some(size) = size_in(field, "body ", " times") {
+            self.copies = size;
         } else if let Some(size) = size_in(field, "store of ", " loads") {
             self.loads = size as u64;
         } else if let Some(number) = number_in(field, "store at ", "") {
@@ -78,8 +87,12 @@ impl Outside {
         Ok(())
     }
 
-    /// The body, with spaces behind it up to the size that is said.
-    pub fn padded(&self, alloc: Global, mut body: Bytes) -> Result<Bytes, NoMemory> {
+    /// The body as often as is said, with spaces behind it up to the size that is said.
+    pub fn padded(&self, alloc: Global, one: &[u8]) -> Result<Bytes, NoMemory> {
+        let mut body = Bytes::new(alloc);
+        for _ in 0..self.copies {
+            body.append(one)?;
+        }
         let mut spaces = Vec::new(alloc);
         spaces.resize(self.body.saturating_sub(body.len()), b' ')?;
         body.append(&spaces)?;

@@ -4,9 +4,12 @@ use lk_io::MemSink;
 use lk_val::{Text, as_text};
 use std::alloc::Global;
 
-/// The status of a run and what it wrote, with `\n` for a line feed and `\r` for a carriage return.
-pub fn answer_of(alloc: Global, status: u8, out: &MemSink) -> Result<Text, CaseFault> {
-    let text = as_text(out.held()).ok_or(CaseFault::NoSuchCase)?;
+/// The status of a run and the last bytes of what it wrote, so many at most, with `\n` for a line feed and `\r` for a
+/// carriage return.
+pub fn answer_of(alloc: Global, status: u8, out: &MemSink, most: usize) -> Result<Text, CaseFault> {
+    let held = out.held();
+    let end = &held[held.len().saturating_sub(most)..];
+    let text = as_text(end).ok_or(CaseFault::NoSuchCase)?;
     let text = on_one_line(alloc, text.trim_end())?;
     let text = text.as_str();
     let answer = format!(in alloc; "{status} {text}")?;

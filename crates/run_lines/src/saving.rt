@@ -31,7 +31,7 @@ pub fn answer_store(rt: &HostRuntime, store: &mut Store, line: &str) -> Result<T
         "load" => answer_load(alloc, store, rest),
         "sql" => answer_sql(rt, store, rest),
         "readonly" => {
-            store.close();
+            store.close(rt)?;
             forbid_writing(rt, store.path(rt)?.as_str()).ok_or(CaseFault::NoSuchCase)?;
             Ok(Text::from_str(alloc, task)?)
         }
@@ -126,7 +126,7 @@ fn print_id(alloc: Global, id: &KeptId) -> Result<Text, CaseFault> {
 }
 
 fn answer_sql(rt: &HostRuntime, store: &mut Store, text: &str) -> Result<Text, CaseFault> {
-    store.close();
+    store.close(rt)?;
     let path = store.path(rt)?;
     let answer = match run_sql(rt, path.as_str(), text) {
         Some(rows) => format!(in rt.alloc(); "{rows} changed")?,

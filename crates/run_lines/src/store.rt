@@ -33,14 +33,24 @@ impl Store {
 
     /// The store at a path.
     pub fn open_at(&mut self, rt: &HostRuntime, path: Text) -> Result<(), CaseFault> {
-        let system: HostRuntime = rt.clone()?;
-        self.keeper = Some(SqlKeeper::at(system, path));
-        Ok(())
+        self.change(rt, Some(path))
     }
 
     /// No store any more, and its file closed.
-    pub fn close(&mut self) {
-        self.keeper = None;
+    pub fn close(&mut self, rt: &HostRuntime) -> Result<(), CaseFault> {
+        self.change(rt, None)
+    }
+
+    // One function makes a store and lets go of one, since each that does either is dear to prove.
+    fn change(&mut self, rt: &HostRuntime, path: Option<Text>) -> Result<(), CaseFault> {
+        self.keeper = match path {
+            Some(path) => {
+                let system: HostRuntime = rt.clone()?;
+                Some(SqlKeeper::at(system, path))
+            }
+            None => None,
+        };
+        Ok(())
     }
 
     /// The file's path.

@@ -20,7 +20,8 @@ pub fn streams_of(alloc: Global, outside: &Outside, body: &str) -> Result<Stream
 }
 
 fn input_of(alloc: Global, outside: &Outside, body: &str) -> Result<MemSource, CaseFault> {
-    let body = outside.padded(alloc, written(alloc, body)?)?;
+    let one = written(alloc, body)?;
+    let body = outside.padded(alloc, one.as_slice())?;
     Ok(MemSource::new(body, calls(alloc, &outside.input)?))
 }
 
