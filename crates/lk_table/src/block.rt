@@ -152,6 +152,8 @@ impl Block {
     }
 
     /// A cell, where it stands; null where there is no such column.
+    // A look at each cell of a column calls nothing then.
+    #[inline(always)]
     pub(crate) fn cell(&self, row: u32, column: u32) -> ValueRef<'_>
         requires { row < length self.now.rows }
         ensures { value_of_ref result ≡ cell_at (row_at self.now.rows row) column }
