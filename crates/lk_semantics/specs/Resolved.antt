@@ -113,7 +113,7 @@ is_numbered_trigger m (trigger.Max t column) = nat_lt t (length m.schema.tables)
 is_numbered_trigger m (trigger.Count t) = nat_lt t (length m.schema.tables)
 is_numbered_trigger m trigger.Today = true
 
--- a datagroup's interval, if it has one, is of 1 second to 1,000,000 hours (Looker, LookML reference: max_cache_age; lookd)
+-- a datagroup's interval, if it has one, is of 1 second to 1,000,000 hours (Looker, LookML reference: interval_trigger; lookd)
 abbrev pub is_interval : Option ℤ → Bool
 is_interval None = true
 is_interval (Some seconds) = int_le (pos 1) seconds && int_le seconds (pos 3600000000)
