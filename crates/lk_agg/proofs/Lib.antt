@@ -1,5 +1,6 @@
 pub mod SortedLaws
 pub mod KeptLaws
+pub mod StepLaws
 pub mod ColumnLaws
 pub mod GatheringLaws
 pub mod PartLaws

@@ -1,6 +1,7 @@
 pub mod BindingLaws
 pub mod BoundLaws
 pub mod DateKindLaws
+pub mod FoundLaws
 pub mod InsertLaws
 pub mod JoinLaws
 pub mod KindLaws
@@ -11,5 +12,6 @@ pub mod NameOrderLaws
 pub mod NumberKindLaws
 pub mod PlacedKindLaws
 pub mod ReadingLaws
+pub mod RequestLaws
 pub mod RowLaws
 pub mod TextKindLaws

@@ -10,3 +10,8 @@ unless_weaker false f h = f h
 pub memory_weaker : {T E : Type 0} (is_memory : E → Bool) (r : Result T E) (P Q : Result T E → Type 0) → ((s : Result T E) → P s → Q s) → UnlessMemory is_memory r P → UnlessMemory is_memory r Q
 memory_weaker is_memory (Ok value) P Q f h = f (Ok value) h
 memory_weaker is_memory (Err fault) P Q f h = unless_weaker (is_memory fault) (f (Err fault)) h
+
+-- a fact holds whatever memory does
+pub always : {P : Type 0} (b : Bool) → P → Unless b P
+always true h = tt
+always false h = h

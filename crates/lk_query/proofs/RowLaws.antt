@@ -1,16 +1,19 @@
 -- Filters by the names of their fields: put in one by one from the last, and at their moment.
-use Rattle.std.proofs.Common.{◌≡◌, ◌∙◌, ℕ, suc, ◌+◌, true, false, cond, not, List, [], ◌∷◌, ◌++◌, refl, sym, ap, arith}
+use Rattle.std.proofs.Common.{◌≡◌, ◌∙◌, ℕ, Bool, suc, ◌+◌, true, false, cond, not, List, [], ◌∷◌, ◌++◌, refl, sym, ap, arith}
 use Rattle.std.specs.Prelude.{ℤ, nat_eq, ◌||◌}
 use Rattle.std.specs.List.{filter, list_any, insert, position_or_len}
 use Rattle.std.proofs.lemmas.List.{map-append}
+use Rattle.std.proofs.lemmas.List.Elements.{filter-append}
 use Rattle.lk_types.specs.Expressions.{has_number}
 use Rattle.lk_types.specs.declared.explore.Explore.{Explore}
 use Rattle.lk_types.specs.declared.filter.Filter.{Filter}
 use Rattle.lk_semantics.specs.Answers.{filtered}
 use Rattle.lk_semantics.specs.Derived.{by_name, put_by_name, with_always}
 use Rattle.lk_filter.specs.PlacedModel.{placed_field_filter}
-use Rattle.lk_query.specs.Bindings.{each_placed}
-use Rattle.lk_query.specs.Rows.{is_first_field, stands_first, with_always_at}
+use Rattle.lk_types.specs.declared.model.Pick.TheVariants.{Dim, Mea}
+use Rattle.lk_query.specs.Bindings.{each_placed, filters_at, on_dims, on_measures}
+use Rattle.lk_query.specs.Readings.{PickFilter}
+use Rattle.lk_query.specs.Rows.{is_first_field, left_out, stands_first, with_always_at}
 
 -- a filter on the field is one whose field is it
 pub any_filtered : (field : ℕ) (fs : List (ℕ × Filter)) → list_any (λ f. nat_eq field f.0) fs ≡ has_number field (filtered fs)
@@ -61,3 +64,28 @@ module _ (now : ℤ) (x : Explore) where
       ∙ ap (λ ns. by_name x (each_placed now fs ++ each_placed now (filter (λ (f : ℕ × Filter). not (has_number f.0 ns)) x.always))) (filtered_placed fs)
       ∙ ap (by_name x) (sym (map-append (placed_field_filter now) fs (filter (λ (f : ℕ × Filter). not (has_number f.0 (filtered fs))) x.always)))
       ∙ sym (by_name_placed (fs ++ filter (λ (f : ℕ × Filter). not (has_number f.0 (filtered fs))) x.always))
+
+-- the filters of a bound query, each list by itself
+pub filters_made : (passed now : ℤ) (x : Explore) (access filters : List PickFilter) (made own rows having : List (ℕ × Filter)) → passed ≡ now
+    → made ≡ each_placed passed (on_dims access) → own ≡ each_placed passed (on_dims filters) → rows ≡ with_always_at passed x own → having ≡ each_placed passed (on_measures filters)
+    → record { access = made; rows = rows; having = having } ≡ filters_at now x access filters
+filters_made passed now x access filters made own rows having same first second third last =
+    (λ i. record { access = first i; rows = (third ∙ ap (with_always_at passed x) second ∙ always_placed passed x (on_dims filters)) i; having = last i })
+    ∙ ap (λ n. filters_at n x access filters) same
+
+-- defaults that are left out, one by one
+pub left_out_by_one : (now : ℤ) (filters : List (ℕ × Filter)) (f : ℕ × Filter) (rest : List (ℕ × Filter))
+    → each_placed now (left_out filters (f ∷ rest)) ≡ each_placed now (left_out filters (f ∷ [])) ++ each_placed now (left_out filters rest)
+left_out_by_one now filters f rest =
+    let kept : (ℕ × Filter) → Bool = λ d. not (list_any (λ g. nat_eq d.0 g.0) filters) in
+    ap (each_placed now) (filter-append kept (f ∷ []) rest) ∙ map-append (placed_field_filter now) (filter kept (f ∷ [])) (filter kept rest)
+
+-- filters on dimensions, one by one
+pub on_dims_by_one : (now : ℤ) (f : PickFilter) (rest : List PickFilter) → each_placed now (on_dims (f ∷ rest)) ≡ each_placed now (on_dims (f ∷ [])) ++ each_placed now (on_dims rest)
+on_dims_by_one now (Dim f, filter) rest = refl
+on_dims_by_one now (Mea m, filter) rest = refl
+
+-- filters on measures, one by one
+pub on_measures_by_one : (now : ℤ) (f : PickFilter) (rest : List PickFilter) → each_placed now (on_measures (f ∷ rest)) ≡ each_placed now (on_measures (f ∷ [])) ++ each_placed now (on_measures rest)
+on_measures_by_one now (Dim f, filter) rest = refl
+on_measures_by_one now (Mea m, filter) rest = refl

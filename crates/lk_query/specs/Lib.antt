@@ -4,4 +4,5 @@ pub mod NameOrder
 pub mod Names
 pub mod Readings
 pub mod Bindings
+pub mod RequestFilters
 pub mod Rows

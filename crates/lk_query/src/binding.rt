@@ -5,6 +5,7 @@ ghost use Rattle.std.specs.List.{AllByRecursion};
 ghost use Rattle.lk_val.specs.Memory.{IsUnlessMemory, Unless, UnlessMemory};
 ghost use Rattle.lk_semantics.specs.Derived.{explore_at};
 ghost use Rattle.lk_body.specs.Faults.{is_no_memory};
+ghost use Rattle.lk_query.specs.RequestFilters.{AreFiltersOf};
 ghost use Rattle.lk_query.specs.Bindings.{IsBodyBound, IsBound, IsBoundFrom, bound_of, bound_with, checked, request_of};
 
 use crate::callers::{find_explore, find_user};
@@ -90,7 +91,7 @@ fn explore_of(m: &Model, number: u32) -> &Explore
     &m.explores.as_slice()[number as usize]
 }
 
-// The request with its access filters read, and then its own.
+// The request with its filters read.
 fn bind_request(
     alloc: Global,
     x: &Explore,
@@ -102,11 +103,23 @@ fn bind_request(
     requires few { length x.now.joins ≤ 31 }
     ensures { UnlessMemory is_no_memory result (IsBoundFrom x.now number q.now now (Ok request)) }
 {
-    let access = read_texts(alloc, request.access.as_slice())?;
-    let filters = read_texts(alloc, request.filters.as_slice())?;
-    let filters = filters_at(alloc, now, x, access.as_slice(), filters.as_slice())?;
+    let filters = filters_of(alloc, x, &request, now)?;
     let bound = bound_with(alloc, x, number, q, request, filters)?;
     checked(alloc, x, bound)
+}
+
+// The filters of a request at a moment: its access filters are read, and then its own.
+fn filters_of(
+    alloc: Global,
+    x: &Explore,
+    request: &Request,
+    now: i64,
+) -> Result<Filters, QueryFault>
+    ensures { UnlessMemory is_no_memory result (AreFiltersOf x.now now request.now) }
+{
+    let access = read_texts(alloc, request.access.as_slice())?;
+    let filters = read_texts(alloc, request.filters.as_slice())?;
+    Ok(filters_at(alloc, now, x, access.as_slice(), filters.as_slice())?)
 }
 
 fn bound_with(

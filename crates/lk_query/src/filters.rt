@@ -20,7 +20,6 @@ pub struct Filters {
 
 /// The filters that were read, at a moment, with the explore's defaults for the fields that the query leaves out.
 /// (Looker, LookML reference: always_filter)
-#[tactic(auto, using(crate::proofs::RowLaws::always_placed))]
 pub(crate) fn filters_at(
     alloc: Global,
     now: i64,

@@ -1,9 +1,9 @@
 -- Rounds that add nothing add nothing further, and what is found by number is what is defined.
-use Rattle.std.proofs.Common.{◌≡◌, ℕ, zero, suc, ◌+◌, ◌<◌, ◌≤◌, Bool, true, false, ◌||◌, List, [], ◌∷◌, ◌++◌, map, length, refl, sym, ap, ◌∙◌, arith, cond, ⊎_elim}
+use Rattle.std.proofs.Common.{◌≡◌, ℕ, zero, suc, ◌+◌, ◌<◌, ◌≤◌, Bool, true, false, ◌||◌, List, [], ◌∷◌, ◌++◌, drop, map, length, refl, sym, ap, ◌∙◌, arith, cond, ⊎_elim}
 use Rattle.std.specs.Prelude.{filter, if◌then◌else◌, nat_eq, slice_index_or}
 use Rattle.std.specs.List.{list_any}
 use Rattle.std.proofs.lemmas.Bool.{cases_lt}
-use Rattle.std.proofs.lemmas.List.{map-append}
+use Rattle.std.proofs.lemmas.List.{drop_more, map-append}
 use Rattle.std.proofs.lemmas.List.Elements.{filter-append}
 use Rattle.lk_val.specs.Least.{grown, grown_times}
 use Rattle.lk_types.specs.Expressions.{has_number}
@@ -67,6 +67,23 @@ module _ {A : Type 0} (f : ℕ → A) (d : A) where
 
   pub past_numbers : (n j : ℕ) → n ≤ j → slice_index_or (map f (numbers_below n)) j d ≡ d
   past_numbers n j past = at_past (map f (numbers_below n)) j d (omega (arith, past, numbers_length n))
+
+-- what is made of one number more
+pub made_more : {A : Type 0} (f : ℕ → A) (made more : List A) (j : ℕ) (y : A) → made ≡ map f (numbers_below j) → y ≡ f j → more ≡ made ++ y ∷ [] → more ≡ map f (numbers_below (j + 1))
+made_more f made more j y so_far is more_is =
+    let next : suc j ≡ j + 1 = omega arith in
+    more_is
+    ∙ (λ i. so_far i ++ is i ∷ [])
+    ∙ sym (map-append f (numbers_below j) (j ∷ []))
+    ∙ ap (λ n. map f (numbers_below n)) next
+
+-- ---- one item more
+
+-- whether an item is found, and what is found behind it
+pub found_from : {A : Type 0} (test : A → Bool) (xs : List A) (i : ℕ) (d : A) (is found all : Bool) → i < length xs → is ≡ test (slice_index_or xs i d) → is ≡ found → list_any test (drop i xs) ≡ all
+    → (found || list_any test (drop (i + 1) xs)) ≡ all
+found_from test xs i d is found all within tested known so_far =
+    ap (λ b. b || list_any test (drop (i + 1) xs)) (sym known ∙ tested) ∙ sym (ap (list_any test) (drop_more xs i d within)) ∙ so_far
 
 -- ---- which joins are asked for
 
