@@ -16,7 +16,7 @@ given : (ds : List ℕ) → 1 ≤ digits_value 10 ds → 0 < length ds
 given [] h = absurd (omega (arith, h))
 given (d ∷ ds) h = omega arith
 
-in_range : (v : ℕ) → (nat_le 1 v && nat_le v 1000000) ≡ true → (1 ≤ v) × (v ≤ 1000000)
+pub in_range : (v : ℕ) → (nat_le 1 v && nat_le v 1000000) ≡ true → (1 ≤ v) × (v ≤ 1000000)
 in_range v e = parts (nat_le 1 v) (nat_le v 1000000) refl refl e where
   parts : (low high : Bool) → nat_le 1 v ≡ low → nat_le v 1000000 ≡ high → (low && high) ≡ true → (1 ≤ v) × (v ≤ 1000000)
   parts true true a b e = (leb-true 1 v a, leb-true v 1000000 b)

@@ -1,7 +1,8 @@
-ghost use Rattle.std.specs.Prelude.{◌≡◌, ◌≤◌, ◌&&◌, IfSome, nat_le, pos};
+ghost use Rattle.std.specs.Prelude.{◌≡◌, ◌≤◌, ◌&&◌, ◌||◌, IfSome, nat_le, pos};
 ghost use Rattle.std.specs.Option.{option_map};
 ghost use Rattle.std.specs.Char.{is_ascii_digit};
 ghost use Rattle.std.specs.List.{list_all};
+ghost use Rattle.lk_val.specs.Texts.{is_same_text};
 ghost use Rattle.lk_datagroup.specs.Intervals.{count_of, interval_of, seconds_in};
 
 // The interval in seconds: a number from 1 to 1,000,000, one space, and a unit. (Looker, LookML reference: interval_trigger)
@@ -44,13 +45,19 @@ fn seconds_in(unit: &str) -> Option<u32>
     ensures of { result ≡ seconds_in unit.now }
     ensures few { IfSome result (λ n. n ≤ 3600) }
 {
-    if unit == "second" || unit == "seconds" {
+    if is_either(unit, "second", "seconds") {
         Some(1)
-    } else if unit == "minute" || unit == "minutes" {
+    } else if is_either(unit, "minute", "minutes") {
         Some(60)
-    } else if unit == "hour" || unit == "hours" {
+    } else if is_either(unit, "hour", "hours") {
         Some(3600)
     } else {
         None
     }
+}
+
+fn is_either(unit: &str, singular: &str, plural: &str) -> bool
+    ensures { result ≡ (is_same_text unit.now singular.now || is_same_text unit.now plural.now) }
+{
+    unit == singular || unit == plural
 }

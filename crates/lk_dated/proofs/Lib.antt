@@ -4,4 +4,5 @@ pub mod SideLaws
 pub mod DatedLaws
 pub mod TreeLaws
 pub mod NodeLaws
+pub mod WrittenLaws
 pub mod PassLaws
