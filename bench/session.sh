@@ -64,7 +64,8 @@ cp "$work/shop/users.csv" "$work/big/users.csv"
 printf 'table,column,kind,key\nt,id,number,yes\nt,n,number,\nt,name,text,\n' >"$work/big/schema.csv"
 printf 'explore: t {}\nview: t { dimension: id { primary_key: yes type: number } measure: count { type: count } }\n' >"$work/big/b.model.lkml"
 
-# The seconds and the kB of a session over a folder, and its status.
+# The seconds and the kB of a session over a folder, and its status. The allocator gives back what `./lookd` has it give back.
+export MALLOC_MMAP_THRESHOLD_=${MALLOC_MMAP_THRESHOLD_:-131072}
 session() {
     /usr/bin/time -f '%e %M' -o "$work/time" "$program" script "$1" <"$2" >"$work/out"
     echo "$? $(tail -1 "$work/time")"
