@@ -5,8 +5,10 @@ mod column;
 mod hash;
 mod mark;
 mod region;
+mod sealed;
 mod texts;
 
 pub use column::Column;
 pub use mark::Mark;
 pub use region::{Region, equal_marks_are_equal_texts};
+pub use sealed::SealedRegion;

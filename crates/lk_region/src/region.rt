@@ -5,6 +5,7 @@ ghost use Rattle.lk_region.specs.Regions.{text_at, with_text, HasText, KeepsText
 
 use crate::hash::hash_of;
 use crate::mark::Mark;
+use crate::sealed::SealedRegion;
 use crate::texts::Texts;
 use lk_val::NoMemory;
 use std::alloc::Global;
@@ -92,6 +93,19 @@ impl Region {
         self.texts.clear();
         self.latest.clear();
         self.earlier.clear();
+    }
+
+    /// The texts alone. What it takes to find the mark of a text is given back.
+    pub fn sealed(self) -> SealedRegion
+        ensures { result ≡ self }
+    {
+        let Region {
+            mut texts,
+            latest: _,
+            earlier: _,
+        } = self;
+        texts.shrink();
+        SealedRegion { texts }
     }
 
     // The number of a text, where the region has it.

@@ -65,6 +65,14 @@ impl Texts {
         Ok(())
     }
 
+    // Gives back the memory that no text takes.
+    pub(crate) fn shrink(&mut self)
+        ensures { self.new ≡ self.old }
+    {
+        self.bytes.shrink_to_fit();
+        self.ends.shrink_to_fit();
+    }
+
     // Removes every text, and keeps the memory.
     pub(crate) fn clear(&mut self)
         ensures { self.new ≡ [] }

@@ -10,7 +10,7 @@ use crate::builder::BlockBuilder;
 use crate::cells::cell_in;
 use crate::column::Column;
 use crate::header::source_of;
-use lk_region::Region;
+use lk_region::SealedRegion;
 use lk_types::Kind;
 use lk_val::{NoMemory, ValueRef};
 use std::alloc::Global;
@@ -20,7 +20,7 @@ use std::mem;
 /// Rows in columns, and the texts of their cells in one region. Clauses see the rows.
 #[derive(Drop)]
 pub(crate) struct Block {
-    region: Region,
+    region: SealedRegion,
     columns: Vec<Column>,
     key: Option<u32>,
     count: u32,
@@ -57,7 +57,7 @@ impl Block {
             text,
         } = rows;
         Block {
-            region,
+            region: region.sealed(),
             columns,
             key,
             count,

@@ -7,7 +7,7 @@ ghost use Rattle.lk_table.specs.Contents.{cell_at};
 ghost use Rattle.lk_table.specs.Columns.{AreText, IsMark, IsMarked, day_value, kind_in, moment_value, number_value, text_value, truth_value, values_in};
 
 use crate::column::Column;
-use lk_region::{Mark, Region};
+use lk_region::{Mark, Region, SealedRegion};
 use lk_val::{NoMemory, Num, ValueRef, as_text};
 
 /// Adds a cell at the end of a column, and its text to the region.
@@ -92,7 +92,7 @@ fn moment_of(cell: ValueRef<'_>) -> Option<i64>
 
 /// The cell of a column in a row.
 #[tactic(auto, using(crate::proofs::RowLaws::value_at, crate::proofs::RowLaws::row_within))]
-pub(crate) fn cell_in<'a>(region: &'a Region, column: &'a Column, row: usize) -> ValueRef<'a>
+pub(crate) fn cell_in<'a>(region: &'a SealedRegion, column: &'a Column, row: usize) -> ValueRef<'a>
     requires row { row < length (values_in region.now column.now) }
     requires marked { IsMarked (length region.now) column.now }
     requires texts { AreText region.now }
@@ -107,7 +107,7 @@ pub(crate) fn cell_in<'a>(region: &'a Region, column: &'a Column, row: usize) ->
     }
 }
 
-fn text_ref(region: &Region, mark: Option<Mark>) -> ValueRef<'_>
+fn text_ref(region: &SealedRegion, mark: Option<Mark>) -> ValueRef<'_>
     requires marked { IsMark (length region.now) mark }
     requires texts { AreText region.now }
     ensures { value_of_ref result ≡ text_value region.now mark }
