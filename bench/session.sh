@@ -2,8 +2,8 @@
 # Times `lookd script` on the worked shop without its datagroup and aggregate tables, as a stream of requests:
 #   queries N    N queries of totals by region over the shop's three orders (100,000 where no word says another), in requests of
 #                one session; queries a second
-#   loads N      N loads of 1,000 rows each appended to one table (1,000 rows a batch); the time of each, and the most memory
-#                of the process beside that of one load of all the rows at once
+#   loads N      N loads of 1,000 rows each appended to one table (1,000 rows a batch); the time of each, the most memory of the
+#                process, and what it holds once all are answered, beside the same rows opened from a data file
 #   large N      200 loads of 1,000 rows each into a table of N rows (1,000,000 where no word says another); the time of one load
 # What the process takes to open is timed by an empty session and taken off. A measurement, not a test. It runs the program that
 # `./lookd` builds, and python3 to write the requests. A store in memory keeps each batch, so the memory of the loads is that of
@@ -87,13 +87,31 @@ queries() {
     report "$1 queries" "$1" "$work/shop" "$work/requests"
 }
 
+# The kB that a session holds when so many requests are answered and more may come.
+held() {
+    rm -f "$work/input"
+    mkfifo "$work/input"
+    "$program" script "$1" <"$work/input" >"$work/out" &
+    exec 3>"$work/input"
+    cat "$2" >&3
+    while kill -0 $! && [ "$(grep -o 'HTTP/1.1 ' "$work/out" | wc -l)" -lt "$3" ]; do
+        sleep 0.2
+    done
+    awk '/^VmRSS/ { print $2 }' "/proc/$!/status"
+    exec 3>&-
+    wait $!
+}
+
 loads() {
     rm -f "$work/big/data/t.csv"
     python3 "$work/write.py" loads "$work" "$1" >"$work/requests"
     report "$1 loads of 1,000 rows" "$1" "$work/big" "$work/requests"
+    echo "    $(held "$work/big" "$work/requests" "$1") kB are held after them, with $(wc -c <"$work/requests") bytes of requests"
     python3 "$work/write.py" once "$work" $((1000 * $1)) >"$work/big/data/t.csv"
     set -- $(session "$work/big" /dev/null)
     echo "    the same number of rows from a data file: $2 s, $(($3 / 1024)) MB"
+    printf 'GET / HTTP/1.1\r\n\r\n' >"$work/requests"
+    echo "    $(held "$work/big" "$work/requests" 1) kB are held once it is opened"
 }
 
 large() {
