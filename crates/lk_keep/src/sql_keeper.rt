@@ -4,15 +4,17 @@ ghost use Rattle.lk_ledger.specs.Saved.{IsSaved};
 ghost use Rattle.lk_keep.specs.System.{sql_faults};
 
 mod id;
+mod opening;
 mod reading;
 mod refusal;
 mod writing;
 
 use lk_ledger::{Command, KeepFault, Keeper, Kept, faults_after};
 use lk_val::Text;
+use opening::{connect, files_at};
 use reading::read_store;
 use refusal::Refusal;
-use sqlite::{Alter, Connection, File, FileStore};
+use sqlite::{Alter, Connection, File, FileStore, Unknown};
 use std::alloc::Global;
 use std::rt::HostRuntime;
 use writing::{write_check, write_load};
@@ -23,7 +25,7 @@ use writing::{write_check, write_load};
 pub struct SqlKeeper {
     rt: HostRuntime,
     path: Text,
-    // The open file, unless the last call failed.
+    // The open file; none before the first call, nor after one that failed.
     opened: Option<Connection<FileStore<File>>>,
     faults: u64,
 }
@@ -90,7 +92,8 @@ impl SqlKeeper {
         ensures same { sql_faults self.new ≡ sql_faults self.old }
     {
         if self.opened.is_none() {
-            let connection = Connection::open(&self.rt, self.path.as_str())?;
+            let files = files_at(&self.rt, self.path.as_str(), Unknown)?;
+            let connection = connect(&self.rt, files)?;
             drop(self.opened.replace(connection));
         }
         run_on(&mut self.opened, task)

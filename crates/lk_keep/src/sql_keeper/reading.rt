@@ -114,7 +114,7 @@ fn number_of(rows: &[Row]) -> Result<u64, Refusal> {
     Ok(row.get(2)?)
 }
 
-// The rows are read one at a time, so that no body is in memory twice.
+// The rows are read one at a time, so that one body at a time is in memory twice, beside the pages that are kept.
 fn read_batches<S: Alter>(alloc: Global, connection: &mut Connection<S>) -> Result<Batches, Refusal>
     ensures { IfOk result (λ batches. length batches.numbers ≡ length batches.chunks) }
 {
