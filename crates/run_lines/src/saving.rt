@@ -1,15 +1,15 @@
 use crate::store::Store;
 use case_lines::{CaseFault, written};
-use lk_keep::{Chunk, Command, KeepFault, Keeper, Kept, KeptId};
-use lk_val::{Text, as_text};
+use lk_keep::{Chunk, Command, KeepFault, Keeper, Kept, KeptId, MemKeeper};
+use lk_val::{Items, Text, as_text};
 use sqlite::Connection;
 use std::alloc::Global;
 use std::fs;
 
-/// The answer of a line on the store of loads in a file, behind the word `store`: `begin` makes a store in a new file, `open`
-/// opens the same file anew, and `at PATH` one that is there; `load NUMBER ID TABLE append|replace ROWS | BODY`, `check NUMBER`
-/// and `read` call the store; `sql TEXT` closes it and changes its file by SQL, and `readonly` closes it and lets nobody write to
-/// its file.
+/// The answer of a line on the store of loads, behind the word `store`: `begin` makes a store in a new file, `open` opens the
+/// same file anew, and `at PATH` one that is there; `memory CALLS` makes one in memory, of which the calls of these numbers fail;
+/// `load NUMBER ID TABLE append|replace ROWS | BODY`, `check NUMBER` and `read` call the store; `sql TEXT` closes it and changes
+/// its file by SQL, and `readonly` closes it and lets nobody write to its file.
 pub fn answer_store(rt: &HostRuntime, store: &mut Store, line: &str) -> Result<Text, CaseFault> {
     let alloc = rt.alloc();
     let (task, rest) = parted(line, " ");
@@ -24,6 +24,10 @@ pub fn answer_store(rt: &HostRuntime, store: &mut Store, line: &str) -> Result<T
         }
         "at" => {
             store.open_at(rt, Text::from_str(alloc, rest)?)?;
+            Ok(Text::from_str(alloc, task)?)
+        }
+        "memory" => {
+            store.hold(rt, empty_store(alloc, rest)?)?;
             Ok(Text::from_str(alloc, task)?)
         }
         "read" => answer_read(alloc, store),
@@ -48,6 +52,20 @@ fn parted<'a>(line: &'a str, bar: &str) -> (&'a str, &'a str) {
 
 fn number(text: &str) -> Result<u64, CaseFault> {
     text.parse::<u64>().ok().ok_or(CaseFault::NoSuchCase)
+}
+
+// A store in memory without loads, of which the calls of these numbers fail.
+fn empty_store(alloc: Global, numbers: &str) -> Result<MemKeeper, CaseFault> {
+    let mut failing = Items::new(alloc);
+    for word in numbers.split_whitespace() {
+        failing.push(number(word)?)?;
+    }
+    let kept = Kept {
+        number: 0,
+        chunks: Items::new(alloc),
+        ids: Items::new(alloc),
+    };
+    Ok(MemKeeper::new(kept, failing))
 }
 
 fn answer_check(alloc: Global, store: &mut Store, rest: &str) -> Result<Text, CaseFault> {
@@ -90,7 +108,7 @@ fn outcome(
 }
 
 fn refused(alloc: Global, store: &mut Store, fault: KeepFault) -> Result<Text, CaseFault> {
-    let faults = store.keeper()?.faults();
+    let faults = store.faults()?;
     Ok(Text::from_string(format!(in alloc; "{fault}: {faults} so far")?))
 }
 
