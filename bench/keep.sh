@@ -2,8 +2,9 @@
 # Times the store of loads in a file beside Python's sqlite3 on the same disk: 100 saves of 1,000 rows on average, with the same
 # transactions, the same journal and the same syncs; and the opening of a store of 1,000 batches of 16 KB with the reading of
 # all that it holds. The program is timed from outside: its saves by the lines that it prints, and the reading from its start to
-# its first line, in time that passed and in time that the processor worked. Each is run seven times, in turns; the middle and
-# the least are told. Then it looks whether Debian's `sqlite3` reads what Python reads, also in a backup that it made, and what
+# its first line, in time that passed and in time that the processor worked. An opening has the kernel drop its copies of the
+# file; Python reads it once after the same, and once from the copies. Each is run seven times, in turns; the middle and the
+# least are told. Then it looks whether Debian's `sqlite3` reads what Python reads, also in a backup that it made, and what
 # it says of a store that is open. A measurement, not a test: it builds the program of `saves.sh`, unless PROGRAM names one.
 . "$(dirname "$0")/saves.sh"
 cat >"$work/keep.py" <<'PYTHON'
@@ -109,6 +110,14 @@ def read_by_program(path):
     return took * 1000, worked
 
 
+def dropped(path):
+    """A file of which the kernel holds no copy."""
+    with open(path, "rb") as file:
+        os.fsync(file.fileno())
+        os.posix_fadvise(file.fileno(), 0, 0, os.POSIX_FADV_DONTNEED)
+    return path
+
+
 def rows_of(db):
     chunks = db.execute("SELECT number, target, body FROM chunks ORDER BY number").fetchall()
     ids = db.execute("SELECT id, number, rows FROM ids ORDER BY number").fetchall()
@@ -149,9 +158,14 @@ def compared(path):
 store = f"{folder}/ours.db"
 told(f"{SAVES} saves", *zip(*((saved_by_program(gone(store)), saved_by_python(gone(f"{folder}/theirs.db"))) for _ in range(7))))
 full = filled(gone(f"{folder}/full.db"))
-ours, python = zip(*((read_by_program(copied(full, f"{folder}/first.db")), read_by_python(copied(full, f"{folder}/second.db"))) for _ in range(7)))
-for name, at in (("opening and reading 1,000 batches of 16 KB", 0), ("the processor's time for it", 1)):
-    told(name, [times[at] for times in ours], [times[at] for times in python])
+ours, disk, copies = zip(*((
+    read_by_program(copied(full, f"{folder}/first.db")),
+    read_by_python(dropped(copied(full, f"{folder}/second.db"))),
+    read_by_python(copied(full, f"{folder}/second.db")),
+) for _ in range(7)))
+for whence, python in (("the disk", disk), ("the kernel's copies", copies)):
+    for name, at in (("opening and reading 1,000 batches of 16 KB", 0), ("the processor's time for it", 1)):
+        told(f"{name}, Python from {whence}", [times[at] for times in ours], [times[at] for times in python])
 print("Debian's sqlite3 reads the same rows of a store, and of its backup:", *compared(store))
 with subprocess.Popen([program, gone(store)], stdout=subprocess.PIPE, text=True) as run:
     run.stdout.readline()
