@@ -108,7 +108,7 @@ table_key p (Some k) (Some (Column q c)) column h =
     ] h
 table_key p key e column h = absurd (no_key column h)
 
-exact_at : (m : Model) (parts : List Part) (n p column : ℕ) → list_all (λ (part : ℕ × Part). is_same_option part.1.enforced (enforced_key m part.0 part.1)) (enumerate_from n parts) ≡ true
+pub exact_at : (m : Model) (parts : List Part) (n p column : ℕ) → list_all (λ (part : ℕ × Part). is_same_option part.1.enforced (enforced_key m part.0 part.1)) (enumerate_from n parts) ≡ true
     → (slice_index_or parts p no_part).enforced ≡ Some column → enforced_key m (n + p) (slice_index_or parts p no_part) ≡ Some column
 exact_at m [] n p column all is = absurd (no_key column is)
 exact_at m (part ∷ parts) n zero column all is =
