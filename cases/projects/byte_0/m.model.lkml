@@ -1,0 +1,1 @@
+view: t { dimension: a {} } explore: t {}

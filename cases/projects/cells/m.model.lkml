@@ -1,0 +1,1 @@
+view: t { measure: n { type: count } } explore: t {}

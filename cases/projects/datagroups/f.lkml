@@ -1,0 +1,1 @@
+view: f { derived_table: { explore_source: t { column: id { } } datagroup_trigger: g } dimension: id { type: number } }

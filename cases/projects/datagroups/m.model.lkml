@@ -1,0 +1,1 @@
+include: "*" datagroup: g { } datagroup: h { }

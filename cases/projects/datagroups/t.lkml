@@ -1,0 +1,1 @@
+view: t { dimension: id { type: number primary_key: yes } dimension: s { } measure: n { type: count } } explore: t { }

@@ -1,0 +1,1 @@
+view: w { derived_table: { explore_source: t { column: id { } } datagroup_trigger: h } dimension: id { type: number } }

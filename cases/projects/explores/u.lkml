@@ -1,0 +1,1 @@
+view: u { dimension: id { type: number primary_key: yes } dimension: c { type: number } dimension: s { } dimension: only { type: number sql: ${TABLE}.c ;; } measure: n { type: count } measure: tc { type: sum sql: ${t.c} ;; } } view: k { sql_table_name: u ;; dimension: c { type: number } dimension: s { } measure: n { type: count } }

@@ -1,0 +1,1 @@
+view: none { dimension: gone { type: number } }

@@ -1,0 +1,1 @@
+view: a { dimension: k { type: number } measure: n { type: count } measure: s { type: sum sql: ${TABLE}.v ;; } measure: m { type: max sql: ${TABLE}.v ;; } } view: b { dimension: id { type: number } } explore: a { join: b { relationship: one_to_many sql_on: ${b.id} = ${a.k} ;; } }

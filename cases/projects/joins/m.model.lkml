@@ -1,0 +1,2 @@
+include: "/views.lkml"
+explore: a {}

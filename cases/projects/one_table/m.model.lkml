@@ -1,0 +1,1 @@
+view: orders { measure: count { type: count } } explore: orders {}

@@ -1,0 +1,1 @@
+include: "*" datagroup: g { } view: t { dimension: id { type: number } dimension: c { type: number } dimension: s { } dimension_group: d { type: time sql: ${TABLE}.d ;; } } explore: t { }

@@ -1,0 +1,1 @@
+view: a { dimension: id { primary_key: yes type: number } measure: n { type: count } } view: b { dimension: a_id { primary_key: yes type: number } measure: n { type: count } measure: s { type: sum_distinct sql_distinct_key: ${a.id} ;; sql: ${a.id} ;; } } explore: a { join: b { type: left_outer relationship: one_to_one sql_on: ${a.id} = ${b.a_id} ;; } }

@@ -1,0 +1,2 @@
+# An explore for each attribute shows the texts that a caller's value lets pass; `free` asks for no attribute.
+include: "callers"

@@ -1,0 +1,1 @@
+explore: orders { join: users { sql_on: ${orders.user_id} = ${users.id} ;; } join: items { relationship: one_to_many sql_on: ${items.order_id} = ${orders.id} ;; } }

@@ -1,0 +1,1 @@
+datagroup: hourly { interval_trigger: "1 hour" }

@@ -1,0 +1,1 @@
+view: items { dimension: id { primary_key: yes type: number } dimension: order_id { type: number } dimension: price { type: number } }

@@ -1,0 +1,1 @@
+datagroup: nightly { sql_trigger: SELECT MAX(id) FROM orders ;; }

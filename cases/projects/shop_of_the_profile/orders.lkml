@@ -1,0 +1,1 @@
+view: orders { dimension: id { primary_key: yes type: number } dimension: user_id { type: number } dimension: status { } dimension: total { type: number } dimension_group: created { type: time sql: ${TABLE}.created_at ;; } measure: count { type: count } measure: total_sum { type: sum sql: ${total} ;; } measure: average_total { type: average sql: ${total} ;; } }

@@ -1,0 +1,1 @@
+view: users { dimension: id { primary_key: yes type: number } dimension: region { } }

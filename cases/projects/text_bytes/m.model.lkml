@@ -1,0 +1,1 @@
+view: a { measure: n { type: count } } explore: a {}

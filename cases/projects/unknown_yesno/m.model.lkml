@@ -1,0 +1,1 @@
+view: t { dimension: id { type: number primary_key: yes } dimension: y { type: yesno sql: ${TABLE}.c > 1 ;; } dimension: z { type: yesno sql: NOT ${y} ;; } measure: n { type: count } measure: m { type: count filters: [y: "No"] } } explore: t { }

@@ -1,0 +1,5 @@
+include: "*.view"
+
+explore: cells {}
+explore: pairs {}
+explore: records {}

@@ -1,5 +1,0 @@
-connection: "store"
-
-include: "/views/*.view.lkml"
-include: "/explores/*.explore.lkml"
-include: "/refinements/*.lkml"

@@ -1,7 +1,0 @@
-use Rattle.std.proofs.Common.{map}
-use Rattle.lk_table.specs.Contents.{kind_of}
-use Rattle.lk_table.specs.Versions.{IsShaped}
-use Rattle.table_cases.proofs.case.appends.Given as goal
-
-abbrev pub invariant-loop-id : goal.invariant-loop-id
-invariant-loop-id l = IsShaped (map kind_of l.def.columns) l.def.key l.table
