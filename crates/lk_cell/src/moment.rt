@@ -2,7 +2,7 @@ ghost use Rattle.std.specs.Prelude.{◌≡◌, ◌<◌, IfSome};
 ghost use Rattle.std.specs.Char.{is_ascii_digit};
 ghost use Rattle.std.specs.List.{list_all};
 ghost use Rattle.lk_val.specs.Numbers.{is_digits};
-ghost use Rattle.lk_cell.specs.Moments.{clock_second, if_ended, is_fraction, moment_cell, second_at, second_behind, without_zone};
+ghost use Rattle.lk_cell.specs.Moments.{clock_second, if_ended, is_fraction, moment_cell, second_at, second_of_numbers, second_behind, without_zone};
 
 use crate::day::read_day;
 use crate::pieces::{behind, front, two_digits};
@@ -34,13 +34,17 @@ fn clock_second(text: &[u8]) -> Option<u32>
 {
     match text {
         [b' ' | b'T', h, o, b':', m, n, b':', s, c] => {
-            let hour = two_digits(*h, *o)?;
-            let minute = two_digits(*m, *n)?;
-            let second = two_digits(*s, *c)?;
-            second_at(hour, minute, second)
+            second_of_numbers(two_digits(*h, *o), two_digits(*m, *n), two_digits(*s, *c))
         }
         _ => None,
     }
+}
+
+// The second at which a clock shows these numbers, where each of them is one.
+fn second_of_numbers(hour: Option<u32>, minute: Option<u32>, second: Option<u32>) -> Option<u32>
+    ensures { result ≡ second_of_numbers hour minute second }
+{
+    second_at(hour?, minute?, second?)
 }
 
 fn second_at(hour: u32, minute: u32, second: u32) -> Option<u32>

@@ -4,5 +4,6 @@ pub mod MeasureLaws
 pub mod GatherLaws
 pub mod EndLaws
 pub mod AnswerLaws
+mod CountedLaws
 pub mod VisitLaws
 pub mod ResolvedLaws

@@ -1,4 +1,4 @@
-ghost use Rattle.std.specs.Prelude.{◌≡◌, ◌+◌, ℕ, ℤ, IfErr, IfOk, List, Option, filter, length, slice_index, true};
+ghost use Rattle.std.specs.Prelude.{◌≡◌, ◌+◌, ℕ, ℤ, Err, IfErr, IfOk, List, Ok, Option, filter, length, slice_index, true};
 ghost use Rattle.lk_val.specs.declared.value.Value.{Value};
 ghost use Rattle.lk_types.specs.declared.answer.Answer.{Answer as AnyAnswer};
 ghost use Rattle.lk_types.specs.declared.rows.Joined.{Joined};
@@ -65,11 +65,23 @@ pub fn answer(
     let asked = Asked::new(alloc, explore, plan, components.as_slice(), now)?;
     match gather_rows(alloc, sources, cap, &asked, Acc::new(alloc, shape)?) {
         Err(fault) => Err(fault),
-        Ok((acc, rows)) => Ok(Counted {
-            answer: finish(alloc, explore, plan, components.as_slice(), acc)?,
+        Ok((acc, rows)) => with_rows(
+            finish(alloc, explore, plan, components.as_slice(), acc),
             rows,
-        }),
+        ),
     }
+}
+
+// An answer, if there is one, with the number of its visible rows.
+fn with_rows(answer: Result<Answer, ExecFault>, rows: u64) -> Result<Counted, ExecFault>
+    ensures answer { IfOk result (λ counted. answer ≡ Ok counted.answer) }
+    ensures rows { IfOk result (λ counted. counted.rows ≡ rows) }
+    ensures fault { IfErr result (λ fault. answer ≡ Err fault) }
+{
+    Ok(Counted {
+        answer: answer?,
+        rows,
+    })
 }
 
 // The answer from the groups of the passing rows at a moment.

@@ -1,10 +1,10 @@
-ghost use Rattle.std.specs.Prelude.{◌≡◌, [], IfOk, IfSome, unwrap_or, filter, not, length};
+ghost use Rattle.std.specs.Prelude.{◌≡◌, [], IfOk, IfSome, codes, unwrap_or, filter, not, length};
 ghost use Rattle.lk_val.specs.Texts.{is_same_text};
 ghost use Rattle.lk_io.specs.Folder.{paths_of};
 ghost use Rattle.lk_val.specs.Memory.{IsUnlessMemory};
 ghost use Rattle.lk_include.specs.Causes.{HasProjectCause, is_outside};
 ghost use Rattle.lk_include.specs.Following.{IsListing, progress_of};
-ghost use Rattle.lk_include.specs.Gathering.{gathered, missing, table_at, trees_from, trees_in, steps, from_root, lookml_paths};
+ghost use Rattle.lk_include.specs.Gathering.{gathered, missing, table_at, trees_from, trees_in, steps, from_root, lookml_paths, with_tables};
 ghost use Rattle.lk_include.specs.Patterns.{is_root};
 ghost use Rattle.lk_include.specs.Reading.{AreRead};
 
@@ -27,15 +27,46 @@ pub fn gather<F: Files>(alloc: Global, files: &mut F) -> Result<Project, Project
     ensures cause { HasProjectCause (F.faults files.old) (F.faults files.new) result }
 {
     let listing = list(alloc, files)?;
-    if let Some(fault) = missing(alloc, &listing, "schema.csv")? {
+    gather_listed(alloc, files, &listing)
+}
+
+// The same of the files in a listing, which is only looked at here, so that it is let go of in one place.
+fn gather_listed<F: Files>(
+    alloc: Global,
+    files: &mut F,
+    listing: &Listing,
+) -> Result<Project, ProjectFault>
+    requires { IfSome (F.told files.old) (IsListing listing.now) }
+    ensures project { IfSome (F.told files.old) (λ told. IsUnlessMemory is_outside result (gathered told)) }
+    ensures read { IfOk result (λ project. AreRead project.trees) }
+    ensures same { F.told files.new ≡ F.told files.old }
+    ensures cause { HasProjectCause (F.faults files.old) (F.faults files.new) result }
+{
+    if let Some(fault) = missing(alloc, listing, "schema.csv")? {
         return Err(ProjectFault::Model(fault));
     }
-    if let Some(fault) = missing(alloc, &listing, "users.csv")? {
+    if let Some(fault) = missing(alloc, listing, "users.csv")? {
         return Err(ProjectFault::Model(fault));
     }
-    let schema = read_table(alloc, files, &listing, "schema.csv")?;
-    let users = read_table(alloc, files, &listing, "users.csv")?;
-    let trees = read_trees(alloc, files, &listing)?;
+    gather_whole(alloc, files, listing)
+}
+
+// The same where neither table is missing.
+fn gather_whole<F: Files>(
+    alloc: Global,
+    files: &mut F,
+    listing: &Listing,
+) -> Result<Project, ProjectFault>
+    requires { IfSome (F.told files.old) (IsListing listing.now) }
+    ensures project { IfSome (F.told files.old) (λ told. IsUnlessMemory is_outside result
+        (with_tables told (table_at told (codes "schema.csv")) (table_at told (codes "users.csv")))) }
+    ensures read { IfOk result (λ project. AreRead project.trees) }
+    ensures same { F.told files.new ≡ F.told files.old }
+    ensures cause { HasProjectCause (F.faults files.old) (F.faults files.new) result }
+{
+    let schema = read_table(alloc, files, listing, "schema.csv")?;
+    let users = read_table(alloc, files, listing, "users.csv")?;
+    let trees = read_trees(alloc, files, listing)?;
     Ok(Project {
         schema: or_empty(alloc, schema),
         users: or_empty(alloc, users),

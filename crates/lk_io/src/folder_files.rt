@@ -86,6 +86,21 @@ struct Walk {
 }
 
 impl Walk {
+    // Visits a folder that is left, if there is one.
+    fn go_on<R: rt::Files + AllocGlobal + Clone + Drop>(
+        &mut self,
+        rt: &R,
+        root: &str,
+    ) -> io::Result<bool> {
+        match self.folders.pop() {
+            None => Ok(false),
+            Some(folder) => {
+                self.visit(rt, root, &folder)?;
+                Ok(true)
+            }
+        }
+    }
+
     // Notes the files and the folders of one folder.
     fn visit<R: rt::Files + AllocGlobal + Clone + Drop>(
         &mut self,
@@ -135,11 +150,10 @@ fn paths_below<R: rt::Files + AllocGlobal + Clone + Drop>(
         folders: vec![in alloc; Text::new(alloc)]?,
     };
     for _ in 0..u64::MAX {
-        let Some(folder) = walk.folders.pop() else {
+        if !walk.go_on(rt, root)? {
             walk.files.sort()?;
             return Ok(walk.files);
-        };
-        walk.visit(rt, root, &folder)?;
+        }
     }
     // A loop must be seen to end, so this one stops after 2^64 - 1 turns, more than a walk takes.
     Err(io::Error::from(ErrorKind::TimedOut))
@@ -150,15 +164,25 @@ fn paths_below<R: rt::Files + AllocGlobal + Clone + Drop>(
 fn place_of<R: rt::Files>(rt: &R, alloc: Global, root: &str, path: &str) -> io::Result<Text> {
     let mut place = Text::from_string(String::from_str(alloc, root)?);
     for name in path.split('/') {
-        if name.is_empty() || name == "." || name == ".." {
-            return Err(io::Error::from(ErrorKind::InvalidFilename));
-        }
-        place = joined(alloc, place.as_str(), name)?;
-        if fs::symlink_metadata(rt, place.as_str())?.is_symlink() {
-            return Err(io::Error::from(ErrorKind::InvalidFilename));
-        }
+        enter(rt, alloc, name, &mut place)?;
     }
     Ok(place)
+}
+
+// Goes on from a place to what has this name there.
+fn enter<R: rt::Files>(rt: &R, alloc: Global, name: &str, place: &mut Text) -> io::Result<()> {
+    if name.is_empty() || name == "." || name == ".." {
+        return Err(io::Error::from(ErrorKind::InvalidFilename));
+    }
+    *place = joined(alloc, place.as_str(), name)?;
+    refuse_link(rt, place.as_str())
+}
+
+fn refuse_link<R: rt::Files>(rt: &R, place: &str) -> io::Result<()> {
+    if fs::symlink_metadata(rt, place)?.is_symlink() {
+        return Err(io::Error::from(ErrorKind::InvalidFilename));
+    }
+    Ok(())
 }
 
 // A file's bytes, and `None` where it has more than `most`. It takes little more memory than `most`.

@@ -2,6 +2,7 @@ ghost use Rattle.std.specs.Prelude.{◌≡◌, ◌++◌, IfOk, flat_map, map, op
 ghost use Rattle.std.specs.List.{position};
 ghost use Rattle.lk_val.specs.Texts.{is_same_text};
 ghost use Rattle.lk_scope.specs.Scopes.{scope_of};
+ghost use Rattle.lk_scope.specs.Told.{IsTold};
 ghost use Rattle.lk_resolved.specs.DerivedTables.{derived_over};
 ghost use Rattle.lk_resolved.specs.Explores.{datagroup_number, explore_of};
 ghost use Rattle.lk_resolved.specs.Names.{or_zero};
@@ -131,7 +132,6 @@ fn explore_over(
         ≡ explore_of schema.now views.now scope.now columns.now (datagroup_number names.now) explore.now) }
 {
     let table = FieldTable::of(alloc, schema, views, scope, columns, UnknownColumn::Null)?;
-    let kept = FieldTable::of(alloc, schema, views, scope, columns, UnknownColumn::Kept)?;
     let fields = ScopeFields {
         schema,
         views,
@@ -139,8 +139,30 @@ fn explore_over(
         columns,
         table: &table,
     };
+    explore_of_fields(alloc, &fields, names, explore)
+}
+
+// Over the fields of its scope. Their table of kept columns is made here, so that no function lets go of two tables.
+fn explore_of_fields(
+    alloc: Global,
+    fields: &ScopeFields,
+    names: &[Text],
+    explore: &DeclaredExplore,
+) -> Result<Explore, NoMemory>
+    requires { IsTold fields.now }
+    ensures { IfOk result (λ made. made
+        ≡ explore_of fields.now.schema.now fields.now.views.now fields.now.scope.now fields.now.columns.now (datagroup_number names.now) explore.now) }
+{
+    let kept = FieldTable::of(
+        alloc,
+        fields.schema,
+        fields.views,
+        fields.scope,
+        fields.columns,
+        UnknownColumn::Kept,
+    )?;
     let model = ModelFields {
-        fields: &fields,
+        fields,
         kept: &kept,
     };
     resolved_explore(alloc, &model, names, explore)

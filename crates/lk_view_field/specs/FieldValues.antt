@@ -63,6 +63,15 @@ abbrev pub all_frames : List Frame
 all_frames = frame.Raw ∷ frame.Time ∷ frame.Date ∷ frame.Week ∷ frame.Month ∷ frame.Quarter ∷ frame.Year
     ∷ frame.HourOfDay ∷ frame.DayOfWeek ∷ frame.DayOfMonth ∷ frame.MonthNum ∷ []
 
+-- a part of a moment, and the timeframe of a name
+abbrev pub part_named : List ℕ → Option Frame
+part_named name =
+    if is_same_text name (codes "hour_of_day") then Some frame.HourOfDay
+    else if is_same_text name (codes "day_of_week") then Some frame.DayOfWeek
+    else if is_same_text name (codes "day_of_month") then Some frame.DayOfMonth
+    else if is_same_text name (codes "month_num") then Some frame.MonthNum
+    else None
+
 abbrev pub frame_named : List ℕ → Option Frame
 frame_named name =
     if is_same_text name (codes "raw") then Some frame.Raw
@@ -72,11 +81,7 @@ frame_named name =
     else if is_same_text name (codes "month") then Some frame.Month
     else if is_same_text name (codes "quarter") then Some frame.Quarter
     else if is_same_text name (codes "year") then Some frame.Year
-    else if is_same_text name (codes "hour_of_day") then Some frame.HourOfDay
-    else if is_same_text name (codes "day_of_week") then Some frame.DayOfWeek
-    else if is_same_text name (codes "day_of_month") then Some frame.DayOfMonth
-    else if is_same_text name (codes "month_num") then Some frame.MonthNum
-    else None
+    else part_named name
 
 -- the timeframe before others, if there is one
 abbrev pub frame_before : Option Frame → List Frame → List Frame

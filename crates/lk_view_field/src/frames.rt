@@ -1,7 +1,7 @@
 ghost use Rattle.std.specs.Prelude.{◌≡◌, IfOk, codes};
 ghost use Rattle.lk_params.specs.Parameters.{last_named};
 ghost use Rattle.lk_params.specs.Values.{words};
-ghost use Rattle.lk_view_field.specs.FieldValues.{all_frames, frame_named, frames_in, frames_named, frames_of};
+ghost use Rattle.lk_view_field.specs.FieldValues.{all_frames, frame_named, part_named, frames_in, frames_named, frames_of};
 
 use lk_params::{firsts, last_named, words};
 use lk_read::Item;
@@ -27,7 +27,16 @@ pub fn frame_named(name: &str) -> Option<Frame>
         Some(Frame::Quarter)
     } else if name == "year" {
         Some(Frame::Year)
-    } else if name == "hour_of_day" {
+    } else {
+        part_named(name)
+    }
+}
+
+// The part of a moment of a name.
+fn part_named(name: &str) -> Option<Frame>
+    ensures { result ≡ part_named name.now }
+{
+    if name == "hour_of_day" {
         Some(Frame::HourOfDay)
     } else if name == "day_of_week" {
         Some(Frame::DayOfWeek)

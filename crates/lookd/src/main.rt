@@ -5,7 +5,7 @@
 ghost use Rattle.std.specs.Prelude.{◌≡◌, [], IfOk, slice_index_or};
 
 use lk_io::{FolderFiles, InSource, OutSink, RealClock};
-use lk_keep::Held;
+use lk_keep::{Held, MemKeeper};
 use lk_serve::{empty_keeper, keeper_for, run};
 use lk_val::{Items, NoMemory, Text};
 use std::alloc::Global;
@@ -30,11 +30,7 @@ fn start(rt: HostRuntime) -> Result<u8, NoMemory> {
     let words = read_words(alloc, &rt)?;
     let folder = folder_of(alloc, words.as_slice())?;
     let system: HostRuntime = rt.clone()?;
-    let keeper = match keeper_for(&rt, words.as_slice())? {
-        Held::Memory(keeper) => keeper,
-        // No command keeps a file so far: these words end with the usage line.
-        Held::File(_) => empty_keeper(alloc),
-    };
+    let keeper = in_memory(alloc, keeper_for(&rt, words.as_slice())?);
     let mut files = FolderFiles::at(system, folder);
     let mut input = InSource::new(rt.reader());
     let mut out = OutSink::new(io::writer(&rt));
@@ -49,6 +45,15 @@ fn start(rt: HostRuntime) -> Result<u8, NoMemory> {
         &mut clock,
     );
     Ok(ran.status)
+}
+
+// The store of a run. No command keeps a file so far: words that ask for one end with the usage line. It is let go of here, and
+// in no other function, since each that does is dear to prove.
+fn in_memory(alloc: Global, held: Held) -> MemKeeper {
+    match held {
+        Held::Memory(keeper) => keeper,
+        Held::File(_) => empty_keeper(alloc),
+    }
 }
 
 // The words after the program's name. Words that are no text are taken as none, which no command has.
