@@ -1,14 +1,10 @@
--- A plan's conditions are those of its query, and its answer is what the query is told.
-use Rattle.std.proofs.Common.{◌≡◌, ◌∙◌, ◌<◌, ◌≤◌, ℕ, ℤ, Bool, true, false, ◌&&◌, List, length, refl, sym, ap, subst, arith}
-use Rattle.std.specs.Prelude.{All, Some, nat_lt, Ok, Err, Result, if◌then◌else◌}
+-- The answer of a plan is what its query is told.
+use Rattle.std.proofs.Common.{◌≡◌, ◌∙◌, ◌<◌, ◌≤◌, ℕ, ℤ, Bool, true, false, List, length, refl, sym, ap, subst, arith}
+use Rattle.std.specs.Prelude.{Some, nat_lt, Ok, Err, Result, if◌then◌else◌}
 use Rattle.lk_val.specs.Memory.{IsUnlessMemory, Unless, UnlessMemory}
-use Rattle.lk_types.specs.Dates.{are_literals_dated}
-use Rattle.lk_types.specs.Expressions.{is_true, value_of}
-use Rattle.lk_types.specs.Formula.{Formula}
 use Rattle.lk_types.specs.declared.answer.Answer.{Answer}
 use Rattle.lk_types.specs.declared.answer.Answer.TheVariants as answer
 use Rattle.lk_types.specs.declared.bound.Bound.{Bound}
-use Rattle.lk_types.specs.declared.bound.Plan.{Plan}
 use Rattle.lk_types.specs.declared.explore.Explore.{Explore}
 use Rattle.lk_types.specs.declared.explore.Measure.{Measure}
 use Rattle.lk_types.specs.declared.model.Model.{Model}
@@ -16,28 +12,17 @@ use Rattle.lk_types.specs.declared.rows.Joined.{Joined}
 use Rattle.lk_types.specs.declared.rows.Sources.{Sources}
 use Rattle.lk_semantics.specs.Answers.{answer_of}
 use Rattle.lk_semantics.specs.Derived.{explore_at}
-use Rattle.lk_semantics.specs.Joins.{is_met, joined_rows}
-use Rattle.lk_semantics.specs.Rows.{passes_all, visible_rows}
+use Rattle.lk_semantics.specs.Rows.{visible_rows}
 use Rattle.lk_exec.specs.Places.{place_after}
 use Rattle.lk_exec.specs.Visits.{IsOver, IsWithin}
 use Rattle.lk_filter.specs.PlacedModel.{placed_explore, placed_model}
-use Rattle.lk_gather.specs.Asked.{IsPlan}
-use Rattle.lk_gather.proofs.PlacedLaws.{measure_is}
+use Rattle.lk_placed_laws.proofs.PlacedLaws.{measure_is}
 use Rattle.lk_query.specs.Bindings.{IsBodyBound}
 use Rattle.lk_schema.specs.declared.users.Users.{Users}
 use Rattle.lk_ask.specs.Asks.{IsAsked, is_no_memory, told_by, told_over}
 use Rattle.lk_ask.specs.declared.fault.AskFault.{AskFault}
 use Rattle.lk_ask.specs.declared.told.Told.{Told}
 use Rattle.lk_ask.specs.declared.fault.AskFault.TheVariants as fault
-
-pub is_plan : (x : Explore) (s : Sources) (b : Bound) (visible passing : Formula) (plan : Plan)
-    → plan.bound ≡ b → plan.visible ≡ visible → plan.passing ≡ passing
-    → All (λ row. is_true (value_of visible row) ≡ passes_all x b.access row) (joined_rows x s b.joins)
-    → All (λ row. is_true (value_of passing row) ≡ (is_met x.always_where row && passes_all x b.rows row)) (joined_rows x s b.joins)
-    → are_literals_dated visible ≡ true → are_literals_dated passing ≡ true → IsPlan x s plan
-is_plan x s b visible passing plan b_is visible_is passing_is sees counts visible_dated passing_dated =
-    subst (IsPlan x s) (λ i. record { bound = sym b_is i; visible = sym visible_is i; passing = sym passing_is i; fanned = plan.fanned })
-    (record { visible = sees; passing = counts; visible_dated = visible_dated; passing_dated = passing_dated })
 
 not_more : (most n : ℕ) → n ≤ most → nat_lt most n ≡ false
 not_more most n h = grind arith

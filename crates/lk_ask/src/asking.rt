@@ -5,6 +5,7 @@ ghost use Rattle.lk_semantics.specs.Answers.{measure_at};
 ghost use Rattle.lk_semantics.specs.DatedRows.{are_joins_dated, are_sources_dated};
 ghost use Rattle.lk_semantics.specs.Derived.{explore_at};
 ghost use Rattle.lk_semantics.specs.Resolved.{IsInModel, IsResolved};
+ghost use Rattle.lk_derived.specs.ReadRows.{HasRowsFor};
 ghost use Rattle.lk_filter.specs.PlacedModel.{placed_explore, placed_model};
 ghost use Rattle.lk_gather.specs.Asked.{IsPlan};
 ghost use Rattle.lk_gather.specs.Measures.{is_fine_explore};
@@ -14,6 +15,7 @@ ghost use Rattle.lk_ask.specs.declared.fault.AskFault.TheVariants as fault;
 
 use crate::fault::{AskFault, refused};
 use crate::told::Told;
+use lk_derived::{rows_read_are_dated, whole_tables_have_rows};
 use lk_exec::ExecFault;
 use lk_gather::{Counted, answer, resolved_explores_are_fine};
 use lk_plan::{compile, conditions_are_dated, joined_rows_meet_conditions};
@@ -48,6 +50,7 @@ pub fn ask(
     ensures { UnlessMemory is_no_memory result (IsAsked m.now users.now sources.now user.now explore.now body.now now) }
 {
     resolved_models_have_few_joins();
+    whole_tables_have_rows();
     match bind_body(alloc, m, users, user, explore, body, now) {
         Err(fault) => Err(refused(fault)),
         Ok(bound) => {
@@ -57,7 +60,9 @@ pub fn ask(
     }
 }
 
-fn answer_bound(
+/// What a query of a resolved model is told over tables that have the rows which it reads: Q10 and Q9 are the refusals that
+/// are left. `now` is the moment for the relative dates in the filters of its measures. (lookd)
+pub fn answer_bound(
     alloc: Global,
     m: &Model,
     sources: &TableSet,
@@ -66,7 +71,7 @@ fn answer_bound(
 ) -> Result<Told, AskFault>
     requires model { IsResolved m.now }
     requires bound { IsInModel m.now bound }
-    requires tables { HasTables m.now sources.now }
+    requires tables { HasRowsFor m.now sources.now bound }
     ensures { IsUnlessMemory is_no_memory result
         (told_over (explore_at (placed_model now m.now) bound.explore) sources.now bound) }
 {
@@ -86,13 +91,14 @@ fn counted_of(
 ) -> Result<Counted, AskFault>
     requires model { IsResolved m.now }
     requires bound { IsInModel m.now bound.now }
-    requires tables { HasTables m.now sources.now }
+    requires tables { HasRowsFor m.now sources.now bound.now }
     ensures { IsCounted (explore_at m.now bound.now.explore) (explore_at (placed_model now m.now) bound.now.explore)
         sources.now bound.now result }
 {
     resolved_explores_are_fine();
     joined_rows_meet_conditions();
     conditions_are_dated();
+    rows_read_are_dated();
     let plan = compile(alloc, m, bound)?;
     let x = explore_of(m, bound.explore);
     counted_by(alloc, x, sources, &plan, now)

@@ -6,7 +6,7 @@ mod fault;
 mod laws;
 mod told;
 
-pub use asking::ask;
+pub use asking::{answer_bound, ask};
 pub use fault::AskFault;
 pub use laws::{
     bodies_are_told_one_thing, rows_depend_on_no_moment, told_queries_are_in_their_model,

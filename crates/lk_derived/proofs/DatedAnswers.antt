@@ -1,6 +1,6 @@
 -- The values of an answer over dated rows are dated.
-use Rattle.std.proofs.Common.{◌≡◌, ℕ, ◌+◌, zero, suc, Bool, true, false, ◌&&◌, List, [], ◌∷◌, ◌++◌, map, length, refl}
-use Rattle.std.specs.Prelude.{ℤ, pos, ◌*◌, ◌==◌, Option, Some, None, filter, flat_map, slice_index_or, if◌then◌else◌}
+use Rattle.std.proofs.Common.{◌≡◌, ℕ, ◌+◌, zero, suc, Bool, true, false, ◌&&◌, List, [], ◌∷◌, map, length, refl}
+use Rattle.std.specs.Prelude.{ℤ, pos, ◌*◌, ◌==◌, Option, Some, None, filter, if◌then◌else◌}
 use Rattle.std.specs.List.{list_all, enumerate_from}
 use Rattle.std.specs.Ordering.{match_ordering, is_gt, flip_args}
 use Rattle.std.specs.declared.cmp.Ordering.{Ordering}
@@ -23,10 +23,10 @@ use Rattle.lk_types.specs.Shapes.{shaped, plain_value, tier_of}
 use Rattle.lk_eval.proofs.DateLaws.{value_of-dated}
 use Rattle.lk_semantics.specs.DatedRows.{is_condition_dated}
 use Rattle.lk_semantics.specs.Rows.{field_at, no_field, dim_value, tuple_of}
-use Rattle.lk_semantics.specs.Measures.{Entry, entry_at, no_entry, entries_of, values_of_entries, average_cell, total, known_count, pairs_of, lesser, greater, least_of, greatest_of, measure_of, groups_of, group_row, group_rows}
+use Rattle.lk_semantics.specs.Measures.{Entry, entry_at, no_entry, entries_of, values_of_entries, average_cell, total, known_count, pairs_of, least_of, greatest_of, measure_of, groups_of, group_row, group_rows}
 use Rattle.lk_semantics.specs.Answers.{measure_at, no_measure, optional_value, key_value, given_row, given_rows, ops_of, rows_grouped, component_cell, frac_of_cell, calculated, cell_of_frac, or_calculated, cell_within, measure_cell, line_cells, line_of, lines_of, passes_having, line_cmp, dims_of, query_components}
 use Rattle.lk_semantics.specs.Derived.{value_of_cell}
-use Rattle.lk_semantics.proofs.EveryLaws.{Every, both, first, second, every-append, every-filter, every-at, every-map}
+use Rattle.lk_semantics.proofs.EveryLaws.{Every, both, first, second, every-filter, every-at, every-map}
 use Rattle.lk_derived.specs.DatedExplores.{is_explore_dated}
 use Rattle.lk_types.specs.declared.schema.Kind.{Kind}
 use Rattle.lk_types.specs.declared.schema.Kind.TheVariants as kind

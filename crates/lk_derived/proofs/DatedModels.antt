@@ -1,6 +1,6 @@
 -- The rows of a model's derived tables are dated.
 use Rattle.std.proofs.Common.{◌≡◌, ℕ, zero, suc, Bool, true, false, ◌&&◌, List, [], ◌∷◌, map, length, refl}
-use Rattle.std.specs.Prelude.{Option, Some, None, filter, not, ◌||◌}
+use Rattle.std.specs.Prelude.{Option, Some, None, not, ◌||◌}
 use Rattle.std.specs.List.{list_any, list_all, AllByRecursion}
 use Rattle.std.proofs.lemmas.Bool.{false≢true}
 use Rattle.lk_types.specs.Formula.{Formula}
@@ -22,18 +22,15 @@ use Rattle.lk_types.specs.declared.explore.Op.TheVariants as op
 use Rattle.lk_semantics.specs.Joins.{joined_rows, is_met}
 use Rattle.lk_semantics.specs.Rows.{passes_all, passing_rows}
 use Rattle.lk_semantics.specs.Answers.{dims_of, query_components, rows_grouped, lines_of}
-use Rattle.lk_semantics.specs.Derived.{explore_at, no_explore, derived_query, value_of_cell, derived_rows, derived_within, sources_of}
+use Rattle.lk_semantics.specs.Derived.{explore_at, no_explore, derived_query, value_of_cell, derived_rows, derived_within}
 use Rattle.lk_semantics.proofs.EveryLaws.{Every, both, first, second, every-filter, every-at, every-map}
 use Rattle.lk_semantics.proofs.DatedLaws.{joined_rows-dated}
 use Rattle.lk_derived.specs.DatedExplores.{is_explore_dated}
 use Rattle.lk_derived.proofs.DatedAnswers.{is_cell_dated, is_group_dated, answer-dated}
-use Rattle.lk_types.specs.declared.answer.GroupRow.{GroupRow}
 use Rattle.lk_types.specs.declared.rows.Sources.{Sources}
-use Rattle.lk_types.specs.declared.rows.Tables.{Tables}
 use Rattle.lk_types.specs.declared.explore.Explore.{Explore}
 use Rattle.lk_types.specs.declared.model.Derived.{Derived}
 use Rattle.lk_types.specs.declared.model.Model.{Model}
-use Rattle.lk_types.specs.declared.bound.Bound.{Bound}
 
 module _ (m : Model) (explores : Every is_explore_dated m.explores) where
   abbrev over : Derived → Explore

@@ -2,11 +2,11 @@
 use Rattle.std.proofs.Common.{◌≡◌, ℕ, ◌+◌, ◌<◌, zero, suc, Bool, true, false, ◌&&◌, ◌||◌, List, [], ◌∷◌, ◌++◌, map, length, refl, sym, ap, subst, ◌∙◌, arith}
 use Rattle.std.specs.Prelude.{ℤ, pos, ◌*◌, ◌==◌, not, nat_eq, Option, Some, None, filter, flat_map, slice_index_or, position, unwrap_or, if◌then◌else◌}
 use Rattle.std.proofs.Common.{cond, eq-eqb}
-use Rattle.std.specs.List.{list_all, list_any, enumerate_from, position_or_len}
+use Rattle.std.specs.List.{list_all, enumerate_from, position_or_len}
 use Rattle.std.specs.Ordering.{is_gt, flip_args}
 use Rattle.std.specs.declared.cmp.Ordering.{Ordering}
 use Rattle.std.proofs.lemmas.Bool.{false≢true, eqb-true, lt-ltb}
-use Rattle.lk_val.specs.Sets.{set_of, first_of}
+use Rattle.lk_val.specs.Sets.{first_of}
 use Rattle.lk_val.specs.Values.{tuple_cmp, null_last_cmp, value_cmp}
 use Rattle.lk_val.specs.Fractions.{Fraction, reduced}
 use Rattle.lk_val.specs.Rounding.{num_of_fraction}
@@ -18,27 +18,26 @@ use Rattle.lk_val.specs.declared.cell.Cell.TheVariants as cell
 use Rattle.lk_types.specs.Formula.{Formula}
 use Rattle.lk_types.specs.Calculation.{Calculation}
 use Rattle.lk_types.specs.Expressions.{value_of, value_of_num, has_number}
-use Rattle.lk_types.specs.Tables.{Cells, is_of_kind}
+use Rattle.lk_types.specs.Tables.{is_of_kind}
 use Rattle.lk_types.specs.Kinds.{HasKinds, is_same_kind}
 use Rattle.lk_types.specs.Shapes.{shaped, framed_kind}
 use Rattle.lk_types.specs.declared.explore.Shape.{Shape}
 use Rattle.lk_types.specs.declared.explore.Shape.TheVariants as shape
-use Rattle.lk_semantics.specs.Rows.{field_at, no_field, dim_value, tuple_of}
+use Rattle.lk_semantics.specs.Rows.{field_at, dim_value, tuple_of}
 use Rattle.lk_semantics.specs.Measures.{Entry, entry_at, no_entry, entries_of, values_of_entries, average_cell, total, known_count, pairs_of, least_of, greatest_of, measure_of, groups_of, group_row, group_rows}
 use Rattle.lk_semantics.specs.Answers.{measure_at, no_measure, optional_value, key_value, given_row, given_rows, ops_of, rows_grouped, first_each, or_parts, parts_of_measure, components_of, picked_measures, filtered, component_cell, frac_of_cell, calculated, cell_of_frac, or_calculated, cell_within, measure_cell, line_cells, line_of, lines_of, passes_having, line_cmp, dims_of, query_components}
 use Rattle.lk_semantics.specs.Derived.{value_of_cell}
 use Rattle.lk_semantics.specs.Reading.{pick_kind}
 use Rattle.lk_semantics.specs.Resolved.{is_typed, is_settled, settled_kind, is_time_kind, is_type_kind, has_shape_kind, is_typed_field, is_typed_measure, has_tiers, has_operands, has_own_kind, is_calculated_rightly, has_calculation, is_some_settled, is_no_formula}
-use Rattle.lk_semantics.proofs.EveryLaws.{Every, both, first, second, every-filter, every-at, every-map}
+use Rattle.lk_semantics.proofs.EveryLaws.{Every, both, first, second, every-filter, every-map}
 use Rattle.lk_derived.specs.FittingRows.{fits_cells}
 use Rattle.std.proofs.lemmas.List.{get_or-map, length-map}
-use Rattle.lk_derived.proofs.DatedAnswers.{every-set_of, every-enumerated, all_of}
+use Rattle.lk_derived.proofs.DatedAnswers.{every-set_of, every-enumerated}
 use Rattle.lk_derived.proofs.FittingJoins.{fits_row, has_kinds, typed-kind, settled-kind, same_kind, shaped_by}
 use Rattle.lk_types.specs.declared.schema.Kind.{Kind}
 use Rattle.lk_types.specs.declared.schema.Kind.TheVariants as kind
 use Rattle.lk_types.specs.declared.kind_set.Leaves.{Leaves}
 use Rattle.lk_types.specs.declared.rows.Joined.{Joined}
-use Rattle.lk_types.specs.declared.explore.Field.{Field}
 use Rattle.lk_types.specs.declared.explore.Measure.{Measure}
 use Rattle.lk_types.specs.declared.explore.Explore.{Explore}
 use Rattle.lk_types.specs.declared.explore.Op.{Op}

@@ -1,23 +1,21 @@
 -- The joined rows of tables that fit their kinds fit them, and so do the values of expressions over them.
-use Rattle.std.proofs.Common.{◌≡◌, ℕ, ◌+◌, zero, suc, Bool, true, false, ◌&&◌, List, [], ◌∷◌, ◌++◌, map, length, refl, sym, ap, subst, ◌∙◌}
-use Rattle.std.specs.Prelude.{Option, Some, None, filter, not, unwrap_or, replicate, slice_get, slice_index_or, slice_set}
-use Rattle.std.specs.List.{list_all, list_any}
+use Rattle.std.proofs.Common.{◌≡◌, ℕ, ◌+◌, zero, suc, Bool, true, false, ◌&&◌, List, [], ◌∷◌, map, length, refl, sym, subst, ◌∙◌}
+use Rattle.std.specs.Prelude.{Option, Some, None, not, unwrap_or, replicate, slice_get, slice_index_or, slice_set}
 use Rattle.std.proofs.lemmas.Bool.{false≢true}
 use Rattle.lk_val.specs.declared.value.Value.{Value}
 use Rattle.lk_val.specs.declared.value.Value.TheVariants as value
 use Rattle.lk_types.specs.Formula.{Formula}
-use Rattle.lk_types.specs.Expressions.{value_of, value_in, column_of}
+use Rattle.lk_types.specs.Expressions.{value_of, value_in}
 use Rattle.lk_types.specs.Tables.{Cells, Rows, is_of_kind}
-use Rattle.lk_types.specs.Kinds.{HasKinds, kind_at, kind_among, kinds_of, has_kind, is_same_kind, is_empty, single}
+use Rattle.lk_types.specs.Kinds.{HasKinds, kind_among, kinds_of, has_kind, is_same_kind, is_empty, single}
 use Rattle.lk_types.specs.Dates.{are_literals_dated}
 use Rattle.lk_types.specs.Shapes.{shaped, shaped_kind}
 use Rattle.lk_types.proofs.ShapeLaws.{shaped_kinds}
 use Rattle.lk_eval.proofs.KindLaws.{value_of-fits, of_single, of_several}
 use Rattle.lk_semantics.specs.Joins.{rows_from, no_part, part_at, join_at, null_row, with_part, partners, or_alone, left_joined, lone_rights, is_lone, is_met, joined_by, join_rows, joined_after, base_rows, in_declared_order, joined_rows}
-use Rattle.lk_semantics.specs.Rows.{field_at, no_field, dim_value}
-use Rattle.lk_semantics.specs.Reading.{origin_kinds, leaves_of}
+use Rattle.lk_semantics.specs.Reading.{origin_kinds}
 use Rattle.lk_semantics.specs.Resolved.{is_typed, is_settled, settled_kind}
-use Rattle.lk_semantics.proofs.EveryLaws.{Every, both, first, second, every-append, every-filter, every-at, every-map, every-flat_map}
+use Rattle.lk_semantics.proofs.EveryLaws.{Every, both, first, second, every-append, every-filter, every-map, every-flat_map}
 use Rattle.lk_derived.specs.FittingRows.{fits_cells, fits_at, fits_rows, fits_parts}
 use Rattle.lk_types.specs.declared.schema.Kind.{Kind}
 use Rattle.lk_types.specs.declared.schema.Kind.TheVariants as kind
@@ -27,7 +25,6 @@ use Rattle.lk_types.specs.declared.rows.Joined.{Joined}
 use Rattle.lk_types.specs.declared.rows.Sources.{Sources}
 use Rattle.lk_types.specs.declared.explore.Shape.{Shape}
 use Rattle.lk_types.specs.declared.explore.Shape.TheVariants as shape
-use Rattle.lk_types.specs.declared.explore.Field.{Field}
 use Rattle.lk_types.specs.declared.explore.Part.{Part}
 use Rattle.lk_types.specs.declared.explore.Origin.{Origin}
 use Rattle.lk_types.specs.declared.explore.Explore.{Explore}

@@ -1,29 +1,26 @@
 -- The rows of a model's derived tables have the kinds of what their columns take.
-use Rattle.std.proofs.Common.{◌≡◌, ℕ, ◌<◌, ◌≤◌, zero, suc, Bool, true, false, ◌&&◌, List, [], ◌∷◌, map, length, refl, sym, ap, subst, ◌∙◌, ⊎_elim}
-use Rattle.std.specs.Prelude.{filter, slice_index_or}
+use Rattle.std.proofs.Common.{◌≡◌, ℕ, zero, suc, Bool, true, ◌&&◌, List, [], ◌∷◌, map, length, refl, sym, ap, subst, ⊎_elim}
+use Rattle.std.specs.Prelude.{slice_index_or}
 use Rattle.std.specs.List.{list_all, AllByRecursion}
 use Rattle.std.proofs.lemmas.Bool.{false≢true}
-use Rattle.lk_val.specs.declared.value.Value.{Value}
 use Rattle.lk_types.specs.Tables.{Cells, Rows, is_of_kind, is_cell, are_of_kinds, has_keys, is_valid_table, are_valid_tables}
-use Rattle.lk_semantics.specs.Joins.{joined_rows, rows_from, is_met}
+use Rattle.lk_semantics.specs.Joins.{joined_rows, is_met}
 use Rattle.lk_semantics.specs.Rows.{field_at, no_field, passes_all, passing_rows}
 use Rattle.lk_semantics.specs.Answers.{measure_at, no_measure}
 use Rattle.lk_semantics.specs.Derived.{explore_at, no_explore, derived_query, derived_rows, derived_within, sources_of}
 use Rattle.lk_semantics.specs.Rollups.{derived_at}
-use Rattle.lk_semantics.specs.Reading.{no_table, table_at, pick_kind, derived_kinds, origin_kinds, leaves_of}
+use Rattle.lk_semantics.specs.Reading.{no_table, pick_kind, derived_kinds, leaves_of}
 use Rattle.lk_semantics.specs.Resolved.{IsResolved, IsResolvedExplore, is_typed_explore, has_typed_key, is_typed_join, is_typed_field, is_typed_measure, names_numbers}
 use Rattle.lk_semantics.proofs.EveryLaws.{Every, both, first, second, every-filter, every-at}
 use Rattle.lk_semantics.proofs.DepthLaws.{lt_or_ge, past_end, row_at}
 use Rattle.lk_derived.specs.FittingRows.{fits_cells, fits_rows}
 use Rattle.lk_derived.proofs.FittingJoins.{FitsSources, fits_row, joined_rows-fits}
 use Rattle.lk_derived.proofs.FittingAnswers.{answer-fits}
-use Rattle.lk_types.specs.declared.schema.Kind.{Kind}
 use Rattle.lk_types.specs.declared.schema.ColumnDef.{ColumnDef}
 use Rattle.lk_types.specs.declared.schema.TableDef.{TableDef}
 use Rattle.lk_types.specs.declared.rows.Sources.{Sources}
 use Rattle.lk_types.specs.declared.rows.Tables.{Tables}
 use Rattle.lk_types.specs.declared.explore.Explore.{Explore}
-use Rattle.lk_types.specs.declared.explore.Origin.{Origin}
 use Rattle.lk_types.specs.declared.explore.Origin.TheVariants.{Stored, Derived as FromDerived}
 use Rattle.lk_types.specs.declared.model.Derived.{Derived}
 use Rattle.lk_types.specs.declared.model.Pick.{Pick}

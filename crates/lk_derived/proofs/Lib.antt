@@ -3,3 +3,4 @@ pub mod DatedModels
 pub mod FittingJoins
 pub mod FittingAnswers
 pub mod FittingModels
+pub mod ReadRows

@@ -1,2 +1,3 @@
 pub mod DatedExplores
 pub mod FittingRows
+pub mod ReadRows

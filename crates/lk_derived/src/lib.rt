@@ -6,4 +6,5 @@ mod laws;
 
 pub use laws::{
     derived_rows_are_dated, derived_rows_have_their_kinds, resolved_explores_are_dated,
+    rows_read_are_dated, rows_read_decide, whole_tables_have_rows,
 };

@@ -1,3 +1,1 @@
-pub mod ContentLaws
-pub mod OpeningLaws
-pub mod RefusalLaws
+pub mod OfficeLaws

@@ -3,8 +3,8 @@ use Rattle.std.specs.Prelude.{◌≡◌, ℕ, List}
 use Rattle.lk_types.specs.declared.rows.Sources.{Sources}
 use Rattle.lk_table.specs.Contents.{Content}
 use Rattle.lk_ledger.specs.declared.kept.KeptId.{KeptId}
-use Rattle.lk_edition.specs.Standings.{IsStanding}
-use Rattle.lk_edition.specs.States.{Standing, State, sources_at}
+use Rattle.lk_state.specs.States.{State, sources_at}
+use Rattle.lk_edition.specs.Standings.{IsStanding, Standing}
 use Rattle.lk_edition.specs.declared.edition.Base.{Base}
 
 -- the state of these parts

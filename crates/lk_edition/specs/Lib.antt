@@ -1,11 +1,7 @@
-pub mod States
-pub mod Limits
-pub mod Replies
+pub mod Standings
 pub mod Plans
 pub mod Loads
 pub mod Openings
-pub mod Standings
 pub mod Offices
 pub mod Editions
-pub mod Refusals
 pub mod Checks

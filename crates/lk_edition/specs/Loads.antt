@@ -1,9 +1,8 @@
 -- What a load does: the reply and the state after it, or its first refusal. (lookd)
-use Rattle.std.specs.Prelude.{ℕ, ◌+◌, Bool, true, false, if◌then◌else◌, List, [], ◌∷◌, ◌++◌, codes, slice_index_or, slice_set, Option, Some, None, Result, Ok, Err}
-use Rattle.std.specs.List.{find, position}
+use Rattle.std.specs.Prelude.{ℕ, ◌+◌, Bool, true, false, if◌then◌else◌, List, [], ◌∷◌, ◌++◌, codes, slice_set, Option, Some, None, Result, Ok, Err}
+use Rattle.std.specs.List.{find}
 use Rattle.std.specs.Option.{is_some}
 use Rattle.lk_val.specs.Texts.{is_same_text}
-use Rattle.lk_types.specs.declared.schema.TableDef.{TableDef}
 use Rattle.lk_schema.specs.Users.{attribute_of}
 use Rattle.lk_schema.specs.declared.users.Users.{Users}
 use Rattle.lk_table.specs.Contents.{Content}
@@ -12,37 +11,21 @@ use Rattle.lk_table.specs.declared.fault.BatchFault.TheVariants as batch
 use Rattle.lk_load.specs.Loading.{LoadedTable, table_loaded}
 use Rattle.lk_ledger.specs.declared.command.Command.{Command}
 use Rattle.lk_ledger.specs.declared.kept.KeptId.{KeptId}
-use Rattle.lk_edition.specs.Limits.{is_over}
-use Rattle.lk_edition.specs.Replies.{load_reply}
-use Rattle.lk_edition.specs.States.{Standing, State}
+use Rattle.lk_command_reply.specs.Replies.{load_reply}
+use Rattle.lk_command_reply.specs.declared.fault.LoadFault.{LoadFault}
+use Rattle.lk_command_reply.specs.declared.fault.LoadFault.TheVariants as fault
+use Rattle.lk_state.specs.Limits.{is_over}
+use Rattle.lk_state.specs.States.{State}
+use Rattle.lk_state.specs.Tables.{content_at, def_at, table_named}
+use Rattle.lk_edition.specs.Plans.{Planned}
+use Rattle.lk_edition.specs.Standings.{Standing}
 use Rattle.lk_edition.specs.declared.call.LoadCall.{LoadCall}
-use Rattle.lk_edition.specs.declared.fault.LoadFault.{LoadFault}
-use Rattle.lk_edition.specs.declared.fault.LoadFault.TheVariants as fault
 use Rattle.lk_edition.specs.declared.plan.LoadPlan.{LoadPlan}
 use Rattle.lk_edition.specs.declared.plan.LoadPlan.TheVariants as plan
-use Rattle.lk_edition.specs.Plans.{Planned}
 
 -- the user may load and check: the attribute `loader` has a value
 abbrev pub is_loader : Users → List ℕ → Bool
 is_loader users user = is_some (attribute_of users user (codes "loader"))
-
--- ---- tables
-
--- the number of the table of a name
-abbrev pub table_named : List TableDef → List ℕ → Option ℕ
-table_named defs name = position (λ def. is_same_text def.name name) defs
-
-abbrev pub no_table : TableDef
-no_table = record { name = []; columns = []; key = None }
-
-abbrev pub def_at : List TableDef → ℕ → TableDef
-def_at defs number = slice_index_or defs number no_table
-
-abbrev pub nothing_held : Content
-nothing_held = record { kinds = []; key = None; rows = [] }
-
-abbrev pub content_at : List Content → ℕ → Content
-content_at contents number = slice_index_or contents number nothing_held
 
 -- ---- the loads that are kept
 

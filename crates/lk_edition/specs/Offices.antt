@@ -1,25 +1,20 @@
 -- What an office is, and what its calls keep. (lookd)
-use Rattle.std.specs.Prelude.{◌≡◌, ◌<◌, ◌≤◌, ℕ, Bool, true, false, List, length, Option, IfSome, Result, Ok}
+use Rattle.std.specs.Prelude.{◌≡◌, ◌≤◌, ℕ, Bool, true, false, List, Option, IfSome, Result, Ok}
 use Rattle.std.specs.Arc.{arc_value}
-use Rattle.std.specs.List.{All}
 use Rattle.lk_io.specs.Causes.{Rose}
 use Rattle.lk_types.specs.declared.model.Model.{Model}
-use Rattle.lk_types.specs.declared.schema.TableDef.{TableDef}
 use Rattle.lk_schema.specs.declared.users.Users.{Users}
 use Rattle.lk_ledger.specs.declared.kept.Kept.{Kept}
+use Rattle.lk_state.specs.Openings.{Seed}
+use Rattle.lk_state.specs.declared.fault.OpenFault.{OpenFault}
+use Rattle.lk_state.specs.declared.fault.OpenFault.TheVariants as fault
 use Rattle.lk_edition.specs.Loads.{load_planned}
-use Rattle.lk_edition.specs.Openings.{Seed, standing_opened}
+use Rattle.lk_edition.specs.Openings.{standing_opened}
 use Rattle.lk_edition.specs.Plans.{Planned}
-use Rattle.lk_edition.specs.States.{Standing}
+use Rattle.lk_edition.specs.Standings.{Standing}
 use Rattle.lk_edition.specs.declared.call.LoadCall.{LoadCall}
-use Rattle.lk_edition.specs.declared.fault.OpenFault.{OpenFault}
-use Rattle.lk_edition.specs.declared.fault.OpenFault.TheVariants as fault
 use Rattle.lk_edition.specs.declared.office.Office.{Office}
 use Rattle.lk_edition.specs.declared.plan.LoadPlan.TheVariants as plan
-
--- each seed is of a table of the schema
-abbrev pub AreSeeds : List TableDef → List Seed → Type 0
-AreSeeds defs seeds = All (λ seed. seed.0 < length defs) seeds
 
 -- what a store hands over is what it holds, where it tells that, and else what it may hand over
 pub record Begins (held : Option Kept) (handed : Kept → Type 0) (kept : Kept) : Type 0 where

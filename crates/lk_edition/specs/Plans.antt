@@ -1,7 +1,7 @@
 -- What is to come of an accepted load. (lookd)
 use Rattle.lk_types.specs.declared.answer.Reply.{Reply}
 use Rattle.lk_ledger.specs.declared.command.Command.{Command}
-use Rattle.lk_edition.specs.States.{Standing}
+use Rattle.lk_edition.specs.Standings.{Standing}
 
 -- the next edition, what the store is told, and the reply
 pub record Planned : Type 0 where

@@ -1,9 +1,16 @@
--- What always holds of an edition. (lookd)
+-- An edition of the server, and what always holds of it. (lookd)
 use Rattle.std.specs.Prelude.{◌≡◌, false, []}
 use Rattle.lk_types.specs.declared.model.Model.{Model}
 use Rattle.lk_semantics.specs.Resolved.{IsResolved}
-use Rattle.lk_edition.specs.Limits.{is_over}
-use Rattle.lk_edition.specs.States.{AreTables, Standing}
+use Rattle.lk_schema.specs.declared.users.Users.{Users}
+use Rattle.lk_state.specs.Limits.{is_over}
+use Rattle.lk_state.specs.States.{AreTables, State}
+
+-- a state of a server of this model and these users
+pub record Standing : Type 0 where
+  pub model : Model
+  pub users : Users
+  pub state : State
 
 -- queries are answered over a resolved model all of whose tables are stored
 pub record IsAnswerable (m : Model) : Type 0 where

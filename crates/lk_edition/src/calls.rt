@@ -3,22 +3,24 @@ ghost use Rattle.std.specs.Arc.{arc_value};
 ghost use Rattle.lk_val.specs.Memory.{IsUnlessMemory, Unless};
 ghost use Rattle.lk_ledger.specs.Causes.{HasKeepCause};
 ghost use Rattle.lk_ledger.specs.Saving.{load, told_after};
+ghost use Rattle.lk_state.specs.Openings.{AreSeeds, is_no_memory as is_without_memory};
+ghost use Rattle.lk_state.specs.declared.fault.OpenFault.TheVariants as fault;
 ghost use Rattle.lk_edition.specs.Checks.{check_planned, is_no_memory as is_no_memory_check};
 ghost use Rattle.lk_edition.specs.Loads.{is_no_memory, load_planned};
-ghost use Rattle.lk_edition.specs.Offices.{AreSeeds, Begins, HasOpenCause, IsOpening, IsPlanned, is_outside, standing_in};
+ghost use Rattle.lk_edition.specs.Offices.{Begins, HasOpenCause, IsOpening, IsPlanned, is_outside, standing_in};
+ghost use Rattle.lk_edition.specs.Openings.{standing_opened};
 ghost use Rattle.lk_edition.specs.Standings.{IsServed};
-ghost use Rattle.lk_edition.specs.Openings.{is_no_memory as is_without_memory, standing_opened};
-ghost use Rattle.lk_edition.specs.declared.fault.OpenFault.TheVariants as fault;
 
 use crate::call::LoadCall;
 use crate::checking::plan_check;
 use crate::edition::Edition;
-use crate::fault::{CheckFault, LoadFault, OpenFault};
 use crate::loading::plan_load;
 use crate::office::{Office, Unopened};
 use crate::plan::{LoadPlan, Pending};
+use lk_command_reply::{CheckFault, LoadFault};
 use lk_ledger::{KeepFault, Keeper, Kept};
 use lk_schema::Users;
+use lk_state::OpenFault;
 use lk_types::{Model, Reply};
 use lk_val::{Bytes, NoMemory, Text};
 use std::alloc::Global;
@@ -28,7 +30,7 @@ impl<K: Keeper> Office<K> {
     /// The office over what a store kept: its batches in their order, and then each seed, a batch in place of the rows of
     /// the table of a number. `Store` comes only where the store's count of faults rose; the other faults are those of the
     /// definition. The store keeps what it held.
-    #[tactic(auto, using(crate::proofs::OpeningLaws::opening, crate::proofs::OpeningLaws::not_opening))]
+    #[tactic(auto, using(crate::proofs::OfficeLaws::opening, crate::proofs::OfficeLaws::not_opening))]
     pub fn open(
         alloc: Global,
         model: Model,

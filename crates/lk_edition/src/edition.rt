@@ -1,14 +1,14 @@
 ghost use Rattle.std.specs.Prelude.{◌≡◌, ◌+◌, ◌++◌, ◌∷◌, [], IfOk, false, map, option_map};
 ghost use Rattle.std.specs.Arc.{arc_value};
+ghost use Rattle.lk_state.specs.Limits.{is_over};
+ghost use Rattle.lk_state.specs.States.{AreTables, sources_at};
 ghost use Rattle.lk_edition.specs.Editions.{standing_of};
-ghost use Rattle.lk_edition.specs.Limits.{is_over};
 ghost use Rattle.lk_edition.specs.Loads.{kept_load};
 ghost use Rattle.lk_edition.specs.Standings.{IsAnswerable, IsStanding};
-ghost use Rattle.lk_edition.specs.States.{AreTables, sources_at};
 
-use crate::tables::share_tables;
 use lk_ledger::KeptId;
 use lk_schema::Users;
+use lk_state::share_tables;
 use lk_table::{StoredTables, TableSet, TableVersion};
 use lk_types::Model as Project;
 use lk_val::{Items, NoMemory, Text};
@@ -40,7 +40,7 @@ impl Model for Edition {
     ghost use Rattle.std.specs.Prelude.{map};
     ghost use Rattle.std.specs.Arc.{arc_value};
     ghost use Rattle.lk_edition.specs.Editions.{IsEdition, standing_of};
-    ghost use Rattle.lk_edition.specs.States.{Standing};
+    ghost use Rattle.lk_edition.specs.Standings.{Standing};
 
     ghost Value = { Standing };
 

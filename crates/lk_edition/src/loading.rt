@@ -3,21 +3,20 @@ ghost use Rattle.std.specs.Arc.{arc_value};
 ghost use Rattle.lk_val.specs.Memory.{IsUnlessMemory, Unless};
 ghost use Rattle.lk_load.specs.Loading.{IsTable, table_loaded};
 ghost use Rattle.lk_ledger.specs.declared.kept.KeptId.{KeptId};
-ghost use Rattle.lk_edition.specs.Limits.{is_over};
-ghost use Rattle.lk_edition.specs.Loads.{content_at, def_at, into_table, is_loader, is_no_memory, kept_load, load_planned, over_batch, planned, state_after, state_with, table_named, unless_kept, unless_over};
-ghost use Rattle.lk_edition.specs.States.{AreTables};
+ghost use Rattle.lk_state.specs.Limits.{is_over};
+ghost use Rattle.lk_state.specs.States.{AreTables};
+ghost use Rattle.lk_state.specs.Tables.{content_at, def_at, table_named};
+ghost use Rattle.lk_edition.specs.Loads.{into_table, is_loader, is_no_memory, kept_load, load_fault, load_planned, over_batch, planned, state_after, state_with, unless_kept, unless_over};
 
 use crate::call::LoadCall;
 use crate::edition::Edition;
-use crate::fault::{LoadFault, load_fault};
-use crate::limits::is_over;
 use crate::plan::{LoadPlan, Pending};
-use crate::replies::load_reply;
-use crate::tables::{compacted, load_into, set_table, share_tables, table_named};
+use lk_command_reply::{LoadFault, load_reply};
 use lk_ledger::{Command, KeptId};
 use lk_load::LoadedBatch;
 use lk_schema::{Users, attribute_of};
-use lk_table::TableVersion;
+use lk_state::{compacted, is_over, load_into, set_table, share_tables, table_named};
+use lk_table::{BatchFault, TableVersion};
 use lk_types::Reply;
 use lk_val::{Items, NoMemory, Text};
 use std::alloc::Global;
@@ -88,6 +87,18 @@ fn load_batch(
     match loaded {
         Ok(loaded) => plan_loaded(alloc, edition, call, number, loaded),
         Err(fault) => Err(load_fault(fault)),
+    }
+}
+
+// The refusal of a load for its batch.
+fn load_fault(fault: BatchFault) -> LoadFault
+    ensures { result ≡ load_fault fault }
+{
+    match fault {
+        BatchFault::L3 { row, column } => LoadFault::L3 { row, column },
+        BatchFault::L4(key) => LoadFault::L4(key),
+        BatchFault::L5(row) => LoadFault::L5(row),
+        BatchFault::NoMemory => LoadFault::NoMemory,
     }
 }
 

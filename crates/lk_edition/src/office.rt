@@ -2,7 +2,7 @@ ghost use Rattle.std.specs.Prelude.{◌≡◌, length};
 ghost use Rattle.std.specs.Arc.{arc_value};
 
 use crate::edition::Edition;
-use crate::fault::OpenFault;
+use lk_state::OpenFault;
 use std::sync::Arc;
 
 /// The server behind its readers: the present edition, and the store that is told of each load before any reader sees it. Its

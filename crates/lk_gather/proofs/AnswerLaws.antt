@@ -1,7 +1,9 @@
 -- The rows of a plan's conditions are those of its query at each moment, and its groups ascend.
 use Rattle.std.proofs.Common.{◌≡◌, ◌∙◌, ℕ, ℤ, zero, suc, Bool, true, false, cond, ◌&&◌, arith, List, [], ◌∷◌, map, refl, sym, ap, subst}
-use Rattle.std.specs.Prelude.{All, filter}
+use Rattle.std.specs.Option.{is_some}
+use Rattle.std.specs.Prelude.{All, Option, filter}
 use Rattle.std.specs.List.Sorted.{IsStrictlySortedBy}
+use Rattle.lk_val.specs.Memory.{Unless}
 use Rattle.lk_val.specs.Values.{tuple_cmp}
 use Rattle.lk_val.specs.ValueOrder.{tuples_ordered}
 use Rattle.lk_val.specs.declared.value.Value.{Value}
@@ -18,9 +20,13 @@ use Rattle.lk_semantics.specs.Joins.{is_met, joined_rows}
 use Rattle.lk_semantics.specs.Measures.{group_row, group_rows, groups_of}
 use Rattle.lk_semantics.specs.Rows.{passes_all, passing_rows, visible_rows}
 use Rattle.lk_exec.specs.Visits.{rows_where}
+use Rattle.lk_agg.specs.Finishing.{IsFaultOf}
+use Rattle.lk_agg.specs.declared.fault.AggFault.{AggFault}
+use Rattle.lk_agg.specs.declared.fault.AggFault.TheVariants as agg
 use Rattle.lk_filter.specs.PlacedModel.{placed_explore}
 use Rattle.lk_gather.specs.Asked.{IsPlan, does_pass}
-use Rattle.lk_gather.proofs.PlacedLaws.{visible_are}
+use Rattle.lk_gather.specs.Groups.{fault_of, is_no_memory}
+use Rattle.lk_placed_laws.proofs.PlacedLaws.{visible_are}
 
 -- ---- groups
 
@@ -71,9 +77,19 @@ module _ (now : ℤ) (x : Explore) (s : Sources) (plan : Plan) (h : IsPlan x s p
       same_kept (does_pass plan) (λ row. is_met x.always_where row && passes_all x plan.bound.rows row) (passes_all x plan.bound.access)
       (joined_rows x s plan.bound.joins) h.passing
 
-  -- the answer over the passing ones of the rows that were visited
+  -- the passing ones of the rows that were visited are those that the query counts
+  pub counted_are : filter (does_pass plan) (rows_where plan.visible (joined_rows x s plan.bound.joins)) ≡ passing_rows y plan.bound.rows (visible_rows y s plan.bound)
+  counted_are =
+      ap (filter (does_pass plan)) (seen_are ∙ visible_are now x s plan.bound) ∙ passing_are
+      ∙ ap (passing_rows x plan.bound.rows) (sym (visible_are now x s plan.bound))
+
+  -- and the answer over them is that of the query
   pub answer_is : answer_over y plan.bound (filter (does_pass plan) (rows_where plan.visible (joined_rows x s plan.bound.joins))) ≡ answer_of y s plan.bound
-  answer_is =
-      ap (answer_over y plan.bound)
-      (ap (filter (does_pass plan)) (seen_are ∙ visible_are now x s plan.bound) ∙ passing_are
-      ∙ ap (passing_rows x plan.bound.rows) (sym (visible_are now x s plan.bound)))
+  answer_is = ap (answer_over y plan.bound) counted_are
+
+-- ---- faults
+
+-- a fault of the accumulator tells that there is a conflict, unless memory is wanting
+pub conflict_told : (fault : AggFault) (conflict : Option (ℕ × Value)) → IsFaultOf fault conflict → Unless (is_no_memory (fault_of fault)) (is_some conflict ≡ true)
+conflict_told (agg.Conflict measure key) conflict is = ap is_some is
+conflict_told agg.NoMemory conflict is = tt

@@ -1,4 +1,3 @@
-pub mod PlacedLaws
 pub mod DimLaws
 pub mod MeasureLaws
 pub mod GatherLaws
@@ -7,3 +6,4 @@ pub mod AnswerLaws
 mod CountedLaws
 pub mod VisitLaws
 pub mod ResolvedLaws
+pub mod PlanLaws

@@ -17,7 +17,7 @@ use Rattle.lk_gather.specs.declared.measures.Taken.{Taken}
 use Rattle.lk_semantics.proofs.EveryLaws.{both, first, second, every-at}
 use Rattle.lk_filter.specs.PlacedModel.{placed_explore, placed_measure}
 use Rattle.lk_gather.proofs.DimLaws.{tests_fine, tests_met}
-use Rattle.lk_gather.proofs.PlacedLaws.{key_value_is}
+use Rattle.lk_placed_laws.proofs.PlacedLaws.{key_value_is}
 
 -- ---- what an explore's fields, measures and parts are
 

@@ -1,5 +1,6 @@
 pub mod Asked
 pub mod Dims
 pub mod Gathers
+pub mod Groups
 pub mod Measures
 pub mod Moments

@@ -2,7 +2,7 @@ ghost use Rattle.std.specs.Prelude.{◌≡◌, ◌+◌, ℕ, ℤ, Err, IfErr, If
 ghost use Rattle.lk_val.specs.declared.value.Value.{Value};
 ghost use Rattle.lk_types.specs.declared.answer.Answer.{Answer as AnyAnswer};
 ghost use Rattle.lk_types.specs.declared.rows.Joined.{Joined};
-ghost use Rattle.lk_semantics.specs.Answers.{answer_of, answer_over, answer_unless, dims_of, measure_at, ops_of, query_components};
+ghost use Rattle.lk_semantics.specs.Answers.{answer_of, answer_over, answer_unless};
 ghost use Rattle.lk_semantics.specs.DatedRows.{are_joins_dated, are_sources_dated};
 ghost use Rattle.lk_semantics.specs.Rows.{visible_rows};
 ghost use Rattle.lk_exec.specs.Places.{place_after};
@@ -14,14 +14,12 @@ ghost use Rattle.lk_gather.specs.Gathers.{HasGathered};
 ghost use Rattle.lk_gather.specs.Measures.{is_fine_explore};
 ghost use Rattle.lk_exec.specs.declared.visit.ExecFault.TheVariants.{Many};
 
-use crate::asked::{Asked, dims_of};
-use crate::gather::gather_rows;
-use lk_agg::{Acc, AccShape, AggFault, given_rows_are_regular};
+use crate::gather::gathered;
+use lk_agg::{Acc, AggFault, given_rows_are_regular};
 use lk_exec::ExecFault;
 use lk_lines::{answer_lines, query_components};
 use lk_table::TableSet;
-use lk_types::{Answer, Explore, Op, Pick, Plan};
-use lk_val::{Items, NoMemory};
+use lk_types::{Answer, Explore, Plan};
 use std::alloc::Global;
 
 /// An answer, and how many visible rows it went over.
@@ -57,18 +55,9 @@ pub fn answer(
     ensures many { IfErr result (λ fault. fault ≡ Many → IsOver cap
         (visible_rows (placed_explore now explore.now) sources.now plan.now.bound)) }
 {
-    let components = query_components(alloc, explore, &plan.bound)?;
-    let shape = AccShape {
-        dims: dims_count(alloc, plan.bound.picks.as_slice())?,
-        ops: ops_of(alloc, explore, components.as_slice())?,
-    };
-    let asked = Asked::new(alloc, explore, plan, components.as_slice(), now)?;
-    match gather_rows(alloc, sources, cap, &asked, Acc::new(alloc, shape)?) {
+    match gathered(alloc, explore, sources, plan, cap, now) {
         Err(fault) => Err(fault),
-        Ok((acc, rows)) => with_rows(
-            finish(alloc, explore, plan, components.as_slice(), acc),
-            rows,
-        ),
+        Ok((acc, rows)) => with_rows(finish(alloc, explore, plan, acc), rows),
     }
 }
 
@@ -85,14 +74,7 @@ fn with_rows(answer: Result<Answer, ExecFault>, rows: u64) -> Result<Counted, Ex
 }
 
 // The answer from the groups of the passing rows at a moment.
-fn finish(
-    alloc: Global,
-    explore: &Explore,
-    plan: &Plan,
-    components: &[u32],
-    acc: Acc,
-) -> Result<Answer, ExecFault>
-    requires { (now : ℤ) → components.now ≡ query_components (placed_explore now explore.now) plan.now.bound }
+fn finish(alloc: Global, explore: &Explore, plan: &Plan, acc: Acc) -> Result<Answer, ExecFault>
     ensures answer { (now : ℤ) (count : ℕ) (seen : List Joined) → HasGathered (placed_explore now explore.now) plan.now acc count seen
         → IfOk result (λ answer. answer ≡ answer_over (placed_explore now explore.now) plan.now.bound (filter (does_pass plan.now) seen)) }
     ensures many { IfErr result (λ fault. fault ≡ Many → ⊥) }
@@ -100,7 +82,10 @@ fn finish(
     given_rows_are_regular();
     match acc.finish() {
         Ok(groups) => Ok(answer_lines(alloc, explore, &plan.bound, groups)?),
-        Err(fault) => refused_by(components, fault),
+        Err(fault) => {
+            let components = query_components(alloc, explore, &plan.bound)?;
+            refused_by(components.as_slice(), fault)
+        }
     }
 }
 
@@ -126,30 +111,5 @@ fn number_at(numbers: &[u32], place: u32) -> u32
     match numbers.get(place as usize) {
         Some(number) => *number,
         None => 0,
-    }
-}
-
-fn dims_count(alloc: Global, picks: &[Pick]) -> Result<u32, NoMemory>
-    ensures { IfOk result (λ count. count ≡ length (dims_of picks.now)) }
-{
-    u32::try_from(dims_of(alloc, picks)?.len()).map_err(|_| NoMemory)
-}
-
-fn ops_of(alloc: Global, explore: &Explore, components: &[u32]) -> Result<Items<Op>, NoMemory>
-    ensures { IfOk result (λ ops. ops ≡ ops_of explore.now components.now) }
-{
-    let mut ops = Items::new(alloc);
-    for number in components {
-        ops.push(op_at(explore, *number))?;
-    }
-    Ok(ops)
-}
-
-fn op_at(explore: &Explore, number: u32) -> Op
-    ensures { result ≡ (measure_at explore.now number).op }
-{
-    match explore.measures.as_slice().get(number as usize) {
-        Some(measure) => measure.op,
-        None => Op::Count,
     }
 }

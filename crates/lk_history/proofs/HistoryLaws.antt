@@ -11,11 +11,11 @@ use Rattle.lk_table.specs.BatchTexts.{HasNamedColumns}
 use Rattle.lk_ledger.specs.Saving.{Save, after_save, after_saves, load}
 use Rattle.lk_ledger.specs.declared.command.Command.{Command}
 use Rattle.lk_ledger.specs.declared.kept.Kept.{Kept}
+use Rattle.lk_command_reply.specs.declared.fault.LoadFault.{LoadFault}
 use Rattle.lk_edition.specs.Loads.{load_planned}
 use Rattle.lk_edition.specs.Openings.{standing_opened}
-use Rattle.lk_edition.specs.States.{Standing}
+use Rattle.lk_edition.specs.Standings.{Standing}
 use Rattle.lk_edition.specs.declared.call.LoadCall.{LoadCall}
-use Rattle.lk_edition.specs.declared.fault.LoadFault.{LoadFault}
 use Rattle.lk_edition.specs.declared.plan.LoadPlan.{LoadPlan}
 use Rattle.lk_edition.specs.declared.plan.LoadPlan.TheVariants.{Kept as kept_plan, New}
 use Rattle.lk_http.specs.Items.{Item}

@@ -13,9 +13,9 @@ use Rattle.lk_table.specs.declared.fault.BatchFault.{BatchFault}
 use Rattle.lk_load.specs.Loading.{LoadedTable, table_loaded}
 use Rattle.lk_ledger.specs.Saving.{other_chunks}
 use Rattle.lk_ledger.specs.declared.kept.Chunk.{Chunk}
-use Rattle.lk_edition.specs.Loads.{content_at, def_at, no_table, nothing_held, table_named}
-use Rattle.lk_edition.specs.Openings.{all_appended, appended, appended_to, empty_tables, or_unread}
-use Rattle.lk_edition.specs.declared.fault.OpenFault.{OpenFault}
+use Rattle.lk_state.specs.Openings.{all_appended, appended, appended_to, empty_tables, or_unread}
+use Rattle.lk_state.specs.Tables.{content_at, def_at, no_table, nothing_held, table_named}
+use Rattle.lk_state.specs.declared.fault.OpenFault.{OpenFault}
 
 -- ---- steps
 

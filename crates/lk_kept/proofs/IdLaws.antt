@@ -13,7 +13,7 @@ use Rattle.lk_ledger.specs.declared.command.Command.{Command}
 use Rattle.lk_ledger.specs.declared.kept.KeptId.{KeptId}
 use Rattle.lk_edition.specs.Loads.{kept_id, kept_load}
 use Rattle.lk_edition.specs.Plans.{Planned}
-use Rattle.lk_edition.specs.States.{Standing}
+use Rattle.lk_edition.specs.Standings.{Standing}
 use Rattle.lk_edition.specs.declared.call.LoadCall.{LoadCall}
 use Rattle.lk_kept.specs.Accepted.{AreAccepted}
 use Rattle.lk_kept.proofs.DifferLaws.{differ_more}

@@ -4,13 +4,14 @@ use Rattle.std.specs.Prelude.{Result, Ok, Err, if◌then◌else◌}
 use Rattle.lk_table.specs.declared.fault.BatchFault.{BatchFault}
 use Rattle.lk_load.specs.Loading.{LoadedTable, table_loaded}
 use Rattle.lk_ledger.specs.declared.kept.KeptId.{KeptId}
-use Rattle.lk_edition.specs.Limits.{is_over}
-use Rattle.lk_edition.specs.Loads.{content_at, def_at, into_table, is_loader, kept_load, load_planned, over_batch, planned, table_named, unless_kept}
+use Rattle.lk_command_reply.specs.Replies.{load_reply}
+use Rattle.lk_command_reply.specs.declared.fault.LoadFault.TheVariants as fault
+use Rattle.lk_state.specs.Limits.{is_over}
+use Rattle.lk_state.specs.Tables.{content_at, def_at, table_named}
+use Rattle.lk_edition.specs.Loads.{into_table, is_loader, kept_load, load_planned, over_batch, planned, unless_kept}
 use Rattle.lk_edition.specs.Plans.{Planned}
-use Rattle.lk_edition.specs.Replies.{load_reply}
-use Rattle.lk_edition.specs.States.{Standing}
+use Rattle.lk_edition.specs.Standings.{Standing}
 use Rattle.lk_edition.specs.declared.call.LoadCall.{LoadCall}
-use Rattle.lk_edition.specs.declared.fault.LoadFault.TheVariants as fault
 use Rattle.lk_edition.specs.declared.plan.LoadPlan.TheVariants as plan
 
 -- a kept load

@@ -15,14 +15,16 @@ use Rattle.lk_ledger.specs.Saving.{after_load, after_saves, load, other_chunks}
 use Rattle.lk_ledger.specs.declared.command.Command.{Command}
 use Rattle.lk_ledger.specs.declared.kept.Chunk.{Chunk}
 use Rattle.lk_ledger.specs.declared.kept.Kept.{Kept}
-use Rattle.lk_edition.specs.Limits.{is_over}
-use Rattle.lk_edition.specs.Loads.{content_at, def_at, no_table, nothing_held, table_named}
-use Rattle.lk_edition.specs.Openings.{all_appended, appended, appended_to, empty_tables, or_unread, standing_opened, standing_over, state_over}
+use Rattle.lk_state.specs.Limits.{is_over}
+use Rattle.lk_state.specs.Openings.{all_appended, appended, appended_to, empty_tables, or_unread, state_over}
+use Rattle.lk_state.specs.States.{State}
+use Rattle.lk_state.specs.Tables.{content_at, def_at, no_table, nothing_held, table_named}
+use Rattle.lk_state.specs.declared.fault.OpenFault.{OpenFault}
+use Rattle.lk_state.specs.declared.fault.OpenFault.TheVariants as fault
+use Rattle.lk_edition.specs.Openings.{standing_opened, standing_over}
 use Rattle.lk_edition.specs.Plans.{Planned}
-use Rattle.lk_edition.specs.States.{Standing, State}
+use Rattle.lk_edition.specs.Standings.{Standing}
 use Rattle.lk_edition.specs.declared.call.LoadCall.{LoadCall}
-use Rattle.lk_edition.specs.declared.fault.OpenFault.{OpenFault}
-use Rattle.lk_edition.specs.declared.fault.OpenFault.TheVariants as fault
 use Rattle.lk_kept.specs.Accepted.{AreAccepted}
 use Rattle.lk_kept.proofs.ChunkLaws.{all_long, empty_set, number_below, one_behind, others_kept}
 use Rattle.lk_kept.proofs.PlanLaws.{IsNew, is_new}

@@ -3,7 +3,7 @@ use Rattle.std.specs.Prelude.{◌≡◌, List, [], ◌∷◌, Ok}
 use Rattle.lk_ledger.specs.declared.command.Command.{Command}
 use Rattle.lk_edition.specs.Loads.{load_planned}
 use Rattle.lk_edition.specs.Plans.{Planned}
-use Rattle.lk_edition.specs.States.{Standing}
+use Rattle.lk_edition.specs.Standings.{Standing}
 use Rattle.lk_edition.specs.declared.call.LoadCall.{LoadCall}
 use Rattle.lk_edition.specs.declared.plan.LoadPlan.TheVariants as plan
 

@@ -13,10 +13,8 @@ use lk_types::{Answer, Bound, Explore, Filter, GroupRow, Pick};
 use lk_val::{Cell, Items, NoMemory};
 use std::alloc::Global;
 
-/// The answer of a query from its groups with the cells of its components, where the groups ascend: the lines of the
-/// groups that pass the filters on measures, in order, the first of them, and whether these are all. It sorts the lines,
-/// so of n groups it compares some n log n; and it goes once over each group, where a `number` that is picked or filtered
-/// on costs one pass over the nodes of its calculation. (lookd)
+/// The answer of a query from its groups with the cells of its components, where the groups ascend: the first of its
+/// `lines`, and whether these are all. (lookd)
 pub fn answer_lines(
     alloc: Global,
     x: &Explore,
@@ -26,9 +24,25 @@ pub fn answer_lines(
     ensures { IsStrictlySortedBy tuple_cmp (map (λ row. row.group) groups)
         → IfOk result (λ answer. answer ≡ cut b.now.limit (lines_of x.now b.now groups)) }
 {
+    cut(alloc, b.limit, lines(alloc, x, b, groups)?)
+}
+
+/// All lines of a query from its groups with the cells of its components, where the groups ascend: those of the groups
+/// that pass the filters on measures, in order. It sorts the lines, so of n groups it compares some n log n; and it goes
+/// once over each group, where a `number` that is picked or filtered on costs one pass over the nodes of its calculation.
+/// (lookd)
+pub fn lines(
+    alloc: Global,
+    x: &Explore,
+    b: &Bound,
+    groups: Items<GroupRow>,
+) -> Result<Items<GroupRow>, NoMemory>
+    ensures { IsStrictlySortedBy tuple_cmp (map (λ row. row.group) groups)
+        → IfOk result (λ lines. lines ≡ lines_of x.now b.now groups) }
+{
     let components = query_components(alloc, x, b)?;
     let lines = lines_over(alloc, x, b, components.as_slice(), groups)?;
-    cut(alloc, b.limit, sorted(b.sorts.as_slice(), lines))
+    Ok(sorted(b.sorts.as_slice(), lines))
 }
 
 // The lines of the groups that pass, in their order, where the groups have the cells of these components.

@@ -9,4 +9,4 @@ mod nesting;
 mod order;
 mod source;
 
-pub use answer::{answer_lines, query_components};
+pub use answer::{answer_lines, lines, query_components};

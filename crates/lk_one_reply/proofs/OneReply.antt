@@ -17,10 +17,12 @@ use Rattle.lk_seed.specs.Seeds.{seeds_of}
 use Rattle.lk_ask.specs.Asks.{IsAsked}
 use Rattle.lk_ask.specs.declared.fault.AskFault.{AskFault}
 use Rattle.lk_ask.specs.declared.told.Told.{Told}
+use Rattle.lk_state.specs.Openings.{Seed}
+use Rattle.lk_state.specs.States.{sources_at}
+use Rattle.lk_state.specs.declared.fault.OpenFault.{OpenFault}
 use Rattle.lk_edition.specs.Offices.{IsOpening}
-use Rattle.lk_edition.specs.Openings.{Seed, standing_opened}
-use Rattle.lk_edition.specs.States.{Standing, sources_at}
-use Rattle.lk_edition.specs.declared.fault.OpenFault.{OpenFault}
+use Rattle.lk_edition.specs.Openings.{standing_opened}
+use Rattle.lk_edition.specs.Standings.{Standing}
 use Rattle.lk_session.specs.Asking as asking
 use Rattle.lk_session.specs.Asking.{replied}
 use Rattle.lk_serve.specs.Checks.{IsChecked, IsToldBy}

@@ -4,20 +4,21 @@ ghost use Rattle.lk_types.specs.Expressions.{is_true, value_of};
 ghost use Rattle.lk_types.specs.Filters.{meets, passes};
 ghost use Rattle.lk_types.specs.Formula.{Formula};
 ghost use Rattle.lk_types.specs.Kinds.{HasKinds};
-ghost use Rattle.lk_types.specs.Tables.{are_valid_tables, is_of_kind};
+ghost use Rattle.lk_types.specs.Tables.{is_of_kind};
 ghost use Rattle.lk_types.specs.declared.bound.Bound.{Bound};
 ghost use Rattle.lk_types.specs.declared.explore.Explore.{Explore};
 ghost use Rattle.lk_types.specs.declared.filter.Filter.{Filter};
 ghost use Rattle.lk_types.specs.declared.filter.Test.{Test};
 ghost use Rattle.lk_types.specs.declared.model.Model.{Model};
 ghost use Rattle.lk_types.specs.declared.rows.Joined.{Joined};
-ghost use Rattle.lk_types.specs.declared.rows.Tables.{Tables};
+ghost use Rattle.lk_types.specs.declared.rows.Sources.{Sources};
 ghost use Rattle.lk_types.specs.declared.schema.Kind.{Kind};
-ghost use Rattle.lk_semantics.specs.Derived.{explore_at, sources_of};
+ghost use Rattle.lk_semantics.specs.Derived.{explore_at};
 ghost use Rattle.lk_semantics.specs.Joins.{is_met, joined_rows};
 ghost use Rattle.lk_semantics.specs.Reading.{leaves_of};
 ghost use Rattle.lk_semantics.specs.Resolved.{IsInModel, IsResolved, IsResolvedExplore};
 ghost use Rattle.lk_semantics.specs.Rows.{dim_value, field_at, passes_all};
+ghost use Rattle.lk_derived.specs.ReadRows.{HasRowsFor};
 ghost use Rattle.lk_plan.specs.Conditions.{passing_condition, visible_condition};
 ghost use Rattle.lk_plan.specs.FieldFormulas.{field_formula};
 ghost use Rattle.lk_plan.specs.FilterConditions.{filter_condition};
@@ -60,14 +61,14 @@ pub fn conditions_are_filters()
         → is_true (value_of (passing_condition x b) row) ≡ (is_met x.always_where row && passes_all x b.rows row) }
 {}
 
-/// Over valid tables of a resolved model, that is so of every row that the query joins: a plan's conditions say which
-/// rows its caller sees, and which of them it counts. A law: it computes nothing.
+/// Over tables that have the rows which a query of a resolved model reads, that is so of every row that the query joins: a
+/// plan's conditions say which rows its caller sees, and which of them it counts. A law: it computes nothing.
 pub fn joined_rows_meet_conditions()
-    ensures visible { (m : Model) (t : Tables) (b : Bound) → IsResolved m → IsInModel m b → are_valid_tables m.schema.tables t.tables ≡ true
+    ensures visible { (m : Model) (s : Sources) (b : Bound) → IsResolved m → IsInModel m b → HasRowsFor m s b
         → All (λ row. is_true (value_of (visible_condition (explore_at m b.explore) b) row) ≡ passes_all (explore_at m b.explore) b.access row)
-        (joined_rows (explore_at m b.explore) (sources_of m t) b.joins) }
-    ensures passing { (m : Model) (t : Tables) (b : Bound) → IsResolved m → IsInModel m b → are_valid_tables m.schema.tables t.tables ≡ true
+        (joined_rows (explore_at m b.explore) s b.joins) }
+    ensures passing { (m : Model) (s : Sources) (b : Bound) → IsResolved m → IsInModel m b → HasRowsFor m s b
         → All (λ row. is_true (value_of (passing_condition (explore_at m b.explore) b) row)
         ≡ (is_met (explore_at m b.explore).always_where row && passes_all (explore_at m b.explore) b.rows row))
-        (joined_rows (explore_at m b.explore) (sources_of m t) b.joins) }
+        (joined_rows (explore_at m b.explore) s b.joins) }
 {}

@@ -21,3 +21,4 @@ pub use laws::{
 };
 pub use lk_body::{QueryFault, read_query};
 pub use lk_schema::{Users, read_users};
+pub use rows::with_always;

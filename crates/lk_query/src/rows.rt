@@ -12,9 +12,10 @@ use lk_types::{Explore, Filter};
 use lk_val::{Items, NoMemory};
 use std::alloc::Global;
 
-/// The filters, and the explore's defaults for the fields that they leave out, by their fields' names.
-/// (Looker, LookML reference: always_filter)
-pub(crate) fn with_always(
+/// The filters, and the explore's defaults for the fields that they leave out, by their fields' names. Of the defaults the
+/// relative dates stand for the days that they name at `now`, in seconds from 1970-01-01 00:00:00 UTC; the filters stay as
+/// they are. (Looker, LookML reference: always_filter)
+pub fn with_always(
     alloc: Global,
     now: i64,
     x: &Explore,

@@ -3,7 +3,7 @@ use Rattle.std.proofs.Common.{◌≡◌, List, ℕ, Option, Some, None, subst}
 use Rattle.std.specs.Prelude.{ℤ, IfSome, Ok, slice_get}
 use Rattle.lk_io.specs.declared.files.File.{File}
 use Rattle.lk_val.specs.Years.{IsMomentInYears}
-use Rattle.lk_edition.specs.States.{Standing}
+use Rattle.lk_edition.specs.Standings.{Standing}
 use Rattle.lk_serve.specs.Keeping.{IsEmpty}
 use Rattle.lk_serve.specs.Opened.{IsOpened}
 use Rattle.lk_serve.specs.Queries.{IsAnswered, IsQueried, OverBody, OverEdition, small_input}

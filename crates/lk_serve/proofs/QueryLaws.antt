@@ -7,7 +7,7 @@ use Rattle.lk_ask.specs.declared.fault.AskFault.{AskFault}
 use Rattle.lk_ask.specs.declared.told.Told.{Told}
 use Rattle.lk_reply.specs.Answers.{answer_text}
 use Rattle.lk_reply.specs.Statuses.{answer_reply}
-use Rattle.lk_edition.specs.States.{Standing}
+use Rattle.lk_edition.specs.Standings.{Standing}
 use Rattle.lk_session.specs.Asking as asking
 use Rattle.lk_session.specs.Asking.{replied}
 use Rattle.lk_serve.specs.Queries.{TellsSome}

@@ -5,7 +5,7 @@ use Rattle.std.specs.Prelude.{IfSome, Ok, Err}
 use Rattle.std.specs.Option.{option_map}
 use Rattle.lk_io.specs.Moments.{later}
 use Rattle.lk_io.specs.declared.files.File.{File}
-use Rattle.lk_edition.specs.States.{Standing}
+use Rattle.lk_edition.specs.Standings.{Standing}
 use Rattle.lk_ledger.specs.declared.kept.Kept.{Kept}
 use Rattle.lk_serve.specs.Opened.{IsOpened}
 use Rattle.lk_serve.specs.Openings.{IsFaulty, IsWhy}

@@ -17,12 +17,11 @@ use Rattle.lk_resolve.specs.declared.loading.Loaded.{Loaded}
 use Rattle.lk_seed.specs.Faults.{seed_fault}
 use Rattle.lk_seed.specs.Seeds.{data_path, seeds_of}
 use Rattle.lk_seed.specs.Seeds as seeds
+use Rattle.lk_state.specs.Openings.{Seed}
+use Rattle.lk_state.specs.declared.fault.OpenFault.{OpenFault}
+use Rattle.lk_state.specs.declared.fault.OpenFault.TheVariants as opening
 use Rattle.lk_edition.specs.Offices.{IsOpening}
-use Rattle.lk_edition.specs.Openings.{Seed}
-use Rattle.lk_edition.specs.Standings.{IsAnswerable, IsServed}
-use Rattle.lk_edition.specs.States.{Standing}
-use Rattle.lk_edition.specs.declared.fault.OpenFault.{OpenFault}
-use Rattle.lk_edition.specs.declared.fault.OpenFault.TheVariants as opening
+use Rattle.lk_edition.specs.Standings.{IsAnswerable, IsServed, Standing}
 use Rattle.lk_serve.specs.Replies.{fault_reply, unanswered_reply}
 use Rattle.lk_serve.specs.declared.opening.Service.{Service}
 use Rattle.lk_serve.specs.declared.opening.Service.TheVariants as service

@@ -3,9 +3,9 @@ use Rattle.std.specs.Prelude.{◌≡◌, ◌⊎◌, ◌≤◌, ⊤, ℕ, ◌++�
 use Rattle.lk_val.specs.declared.fault.ModelFault.{ModelFault}
 use Rattle.lk_io.specs.Causes.{Rose}
 use Rattle.lk_io.specs.declared.files.File.{File}
-use Rattle.lk_edition.specs.Openings.{Seed}
-use Rattle.lk_edition.specs.declared.fault.OpenFault.{OpenFault}
-use Rattle.lk_edition.specs.declared.fault.OpenFault.TheVariants as opening
+use Rattle.lk_state.specs.Openings.{Seed}
+use Rattle.lk_state.specs.declared.fault.OpenFault.{OpenFault}
+use Rattle.lk_state.specs.declared.fault.OpenFault.TheVariants as opening
 use Rattle.lk_resolve.specs.Loading.{IsLoadOf}
 use Rattle.lk_resolve.specs.declared.loading.Loaded.{Loaded}
 use Rattle.lk_seed.specs.Seeds.{seeds_of}

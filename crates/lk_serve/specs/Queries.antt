@@ -8,7 +8,7 @@ use Rattle.lk_types.specs.declared.model.Model.{Model}
 use Rattle.lk_ask.specs.Asks.{is_no_memory}
 use Rattle.lk_ask.specs.declared.fault.AskFault.{AskFault}
 use Rattle.lk_ask.specs.declared.told.Told.{Told}
-use Rattle.lk_edition.specs.States.{Standing}
+use Rattle.lk_edition.specs.Standings.{Standing}
 use Rattle.lk_session.specs.Asking as asking
 use Rattle.lk_serve.specs.Keeping.{IsEmpty}
 use Rattle.lk_serve.specs.Opened.{IsOpened}

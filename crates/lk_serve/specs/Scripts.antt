@@ -6,7 +6,7 @@ use Rattle.lk_io.specs.Moments.{later}
 use Rattle.lk_io.specs.Streams.{AppendsFront}
 use Rattle.lk_io.specs.declared.files.File.{File}
 use Rattle.lk_ledger.specs.declared.kept.Kept.{Kept}
-use Rattle.lk_edition.specs.States.{Standing}
+use Rattle.lk_edition.specs.Standings.{Standing}
 use Rattle.lk_session.specs.Runs.{IsSession}
 use Rattle.lk_session.specs.Servers.{server}
 use Rattle.lk_session.specs.declared.ended.Ended.{Ended}

@@ -3,9 +3,9 @@ use Rattle.std.proofs.Common.{◌≡◌, ◌∙◌, ◌++◌, ◌+◌, ◌≤◌
 use Rattle.std.specs.Prelude.{ℤ, ◌⊎◌, if◌then◌else◌, Ok, Err, Result}
 use Rattle.lk_io.specs.Causes.{Rose}
 use Rattle.lk_types.specs.declared.answer.Reply.{Reply}
+use Rattle.lk_command_reply.specs.declared.fault.LoadFault.{LoadFault}
 use Rattle.lk_edition.specs.Loads.{load_planned}
-use Rattle.lk_edition.specs.States.{Standing}
-use Rattle.lk_edition.specs.declared.fault.LoadFault.{LoadFault}
+use Rattle.lk_edition.specs.Standings.{Standing}
 use Rattle.lk_edition.specs.declared.plan.LoadPlan.{LoadPlan}
 use Rattle.lk_edition.specs.declared.plan.LoadPlan.TheVariants.{Kept as kept_plan, New}
 use Rattle.lk_http.specs.Items.{Item}

@@ -11,16 +11,18 @@ use Rattle.lk_ask.specs.declared.fault.AskFault.{AskFault}
 use Rattle.lk_ask.specs.declared.fault.AskFault.TheVariants as ask
 use Rattle.lk_ask.specs.declared.told.Told.{Told}
 use Rattle.lk_reply.specs.Statuses.{answer_reply, refusal_reply, status_of}
-use Rattle.lk_edition.specs.Checks.{check_planned, unbuilt_reply}
-use Rattle.lk_edition.specs.Loads.{into_table, is_loader, load_planned, over_batch, planned, table_named, unless_kept}
+use Rattle.lk_command_reply.specs.Refusals.{check_refusal, check_status, load_refusal, load_status, unsaved_reply}
+use Rattle.lk_command_reply.specs.Replies.{unbuilt_reply}
+use Rattle.lk_command_reply.specs.declared.fault.CheckFault.{CheckFault}
+use Rattle.lk_command_reply.specs.declared.fault.CheckFault.TheVariants as check
+use Rattle.lk_command_reply.specs.declared.fault.LoadFault.{LoadFault}
+use Rattle.lk_command_reply.specs.declared.fault.LoadFault.TheVariants as load
+use Rattle.lk_state.specs.Tables.{table_named}
+use Rattle.lk_edition.specs.Checks.{check_planned}
+use Rattle.lk_edition.specs.Loads.{into_table, is_loader, load_planned, over_batch, planned, unless_kept}
 use Rattle.lk_edition.specs.Plans.{Planned}
-use Rattle.lk_edition.specs.Refusals.{check_refusal, check_status, load_refusal, load_status, unsaved_reply}
-use Rattle.lk_edition.specs.States.{Standing}
+use Rattle.lk_edition.specs.Standings.{Standing}
 use Rattle.lk_edition.specs.declared.call.LoadCall.{LoadCall}
-use Rattle.lk_edition.specs.declared.fault.CheckFault.{CheckFault}
-use Rattle.lk_edition.specs.declared.fault.CheckFault.TheVariants as check
-use Rattle.lk_edition.specs.declared.fault.LoadFault.{LoadFault}
-use Rattle.lk_edition.specs.declared.fault.LoadFault.TheVariants as load
 use Rattle.lk_edition.specs.declared.plan.LoadPlan.{LoadPlan}
 use Rattle.lk_edition.specs.declared.plan.LoadPlan.TheVariants.{Kept as kept_plan, New}
 use Rattle.lk_http.specs.Replies.{is_status}

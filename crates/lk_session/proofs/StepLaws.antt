@@ -7,7 +7,7 @@ use Rattle.lk_val.specs.Years.{IsMomentInYears}
 use Rattle.lk_types.specs.declared.answer.Reply.{Reply}
 use Rattle.lk_ledger.specs.Saving.{after_saves}
 use Rattle.lk_ledger.specs.declared.kept.Kept.{Kept}
-use Rattle.lk_edition.specs.States.{Standing}
+use Rattle.lk_edition.specs.Standings.{Standing}
 use Rattle.lk_http.specs.Answers.{IsAnswer, IsDropped}
 use Rattle.lk_http.specs.Items.{IsNext, Item, ends}
 use Rattle.lk_http.specs.Replies.{memory_reply}

@@ -5,8 +5,8 @@ use Rattle.lk_types.specs.declared.schema.TableDef.{TableDef}
 use Rattle.lk_semantics.specs.Derived.{derived_within}
 use Rattle.lk_table.specs.Contents.{Content}
 use Rattle.lk_ask.specs.Asks.{HasTables}
-use Rattle.lk_edition.specs.Standings.{IsStanding}
-use Rattle.lk_edition.specs.States.{AreTables, Standing, sources_at}
+use Rattle.lk_state.specs.States.{AreTables, sources_at}
+use Rattle.lk_edition.specs.Standings.{IsStanding, Standing}
 
 both : (a b : Bool) → a ≡ true → b ≡ true → (a && b) ≡ true
 both a b p q = (λ i. p i && q i)

@@ -6,7 +6,8 @@ use Rattle.lk_ask.specs.Asks.{IsAsked}
 use Rattle.lk_ask.specs.declared.fault.AskFault.{AskFault}
 use Rattle.lk_ask.specs.declared.told.Told.{Told}
 use Rattle.lk_reply.specs.Statuses.{answer_reply}
-use Rattle.lk_edition.specs.States.{Standing, sources_at}
+use Rattle.lk_state.specs.States.{sources_at}
+use Rattle.lk_edition.specs.Standings.{Standing}
 use Rattle.lk_session.specs.declared.scratch.Scratch.{Scratch}
 
 -- what a query is told, as a reply that names the edition's number; in CSV where the query or its caller asks so

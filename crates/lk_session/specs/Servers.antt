@@ -10,15 +10,15 @@ use Rattle.lk_ledger.specs.declared.kept.Kept.{Kept}
 use Rattle.lk_ask.specs.Asks.{is_no_memory}
 use Rattle.lk_ask.specs.declared.fault.AskFault.{AskFault}
 use Rattle.lk_reply.specs.Statuses.{refusal_reply}
+use Rattle.lk_command_reply.specs.Refusals.{check_refusal, load_refusal, unsaved_reply}
+use Rattle.lk_command_reply.specs.declared.fault.CheckFault.{CheckFault}
+use Rattle.lk_command_reply.specs.declared.fault.LoadFault.{LoadFault}
 use Rattle.lk_edition.specs.Checks.{check_planned}
 use Rattle.lk_edition.specs.Checks as checks
 use Rattle.lk_edition.specs.Loads.{load_planned}
 use Rattle.lk_edition.specs.Loads as loads
-use Rattle.lk_edition.specs.Refusals.{check_refusal, load_refusal, unsaved_reply}
-use Rattle.lk_edition.specs.States.{Standing}
+use Rattle.lk_edition.specs.Standings.{Standing}
 use Rattle.lk_edition.specs.declared.call.LoadCall.{LoadCall}
-use Rattle.lk_edition.specs.declared.fault.CheckFault.{CheckFault}
-use Rattle.lk_edition.specs.declared.fault.LoadFault.{LoadFault}
 use Rattle.lk_edition.specs.declared.plan.LoadPlan.{LoadPlan}
 use Rattle.lk_edition.specs.declared.plan.LoadPlan.TheVariants.{Kept as kept_plan, New}
 use Rattle.lk_http.specs.Items.{IsNext, Item, ends}

@@ -9,10 +9,10 @@ ghost use Rattle.lk_session.specs.Steps.{keeper_in};
 use crate::asking::ask;
 use crate::scratch::Scratch;
 use lk_ask::AskFault;
-use lk_edition::{
-    CheckFault, LoadCall, LoadFault, LoadPlan, Office, reply_check_refusal, reply_load_refusal,
-    reply_unsaved,
+use lk_command_reply::{
+    CheckFault, LoadFault, reply_check_refusal, reply_load_refusal, reply_unsaved,
 };
+use lk_edition::{LoadCall, LoadPlan, Office};
 use lk_http::{Request, Target};
 use lk_ledger::{KeepFault, Keeper};
 use lk_reply::reply_refusal;

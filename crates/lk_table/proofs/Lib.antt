@@ -9,6 +9,7 @@ pub mod FitLaws
 pub mod KeyLaws
 pub mod KeyOrderLaws
 pub mod VersionLaws
+pub mod GreatestLaws
 pub mod TextLaws
 pub mod BackLaws
 pub mod CellBackLaws

@@ -9,6 +9,7 @@ use crate::version::TableVersion;
 use lk_val::{Items, NoMemory, Value, ValueRef};
 use std::alloc::Global;
 use std::marker::Model;
+use std::sync::Arc;
 
 /// The stored tables by number, each by its rows. Clauses see the rows.
 #[derive(Drop)]
@@ -44,11 +45,53 @@ impl StoredTables {
     }
 }
 
+/// The rows of a derived table, which all sets of tables that have them share. Clauses see the rows.
+#[derive(Drop)]
+pub struct DerivedRows {
+    rows: Arc<Items<Items<Value>>>,
+}
+
+impl Model for DerivedRows {
+    ghost use Rattle.std.specs.Arc.{arc_value};
+    ghost use Rattle.lk_types.specs.Tables.{Rows};
+
+    ghost Value = { Rows };
+
+    ghost view = { λ derived. arc_value derived.rows };
+}
+
+impl DerivedRows {
+    /// These rows, each with a cell for each column.
+    pub fn new(alloc: Global, rows: Items<Items<Value>>) -> Result<DerivedRows, NoMemory>
+        ensures { IfOk result (λ derived. derived ≡ rows) }
+    {
+        Ok(DerivedRows {
+            rows: Arc::new(alloc, rows)?,
+        })
+    }
+
+    /// The rows once more: nothing of them is copied.
+    pub fn share(&self) -> Result<DerivedRows, NoMemory>
+        ensures { IfOk result (λ derived. derived ≡ self.now) }
+    {
+        Ok(DerivedRows {
+            rows: Arc::try_clone(&self.rows)?,
+        })
+    }
+
+    /// The rows in a slice.
+    pub fn as_slice(&self) -> &[Items<Value>]
+        ensures { result.now ≡ self.now }
+    {
+        self.rows.as_slice()
+    }
+}
+
 /// The stored tables and the rows of the derived ones, both by number, as a query sees them. Clauses see the rows.
 #[derive(Drop)]
 pub struct TableSet {
     stored: StoredTables,
-    derived: Items<Items<Items<Value>>>,
+    derived: Items<DerivedRows>,
 }
 
 impl Model for TableSet {
@@ -61,7 +104,7 @@ impl Model for TableSet {
 
 impl TableSet {
     /// These tables.
-    pub fn new(stored: StoredTables, derived: Items<Items<Items<Value>>>) -> TableSet
+    pub fn new(stored: StoredTables, derived: Items<DerivedRows>) -> TableSet
         ensures { result ≡ record { stored = stored.tables; derived = derived } }
     {
         TableSet { stored, derived }

@@ -1,3 +1,2 @@
-pub mod GreatestLaws
 pub mod NumberLaws
 pub mod TriggerLaws

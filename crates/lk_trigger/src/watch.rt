@@ -5,13 +5,12 @@ ghost use Rattle.lk_val.specs.ValueRefs.{value_of_ref};
 ghost use Rattle.lk_val.specs.Years.{IsMomentInYears};
 ghost use Rattle.lk_types.specs.Calendar.{day_of_moment};
 ghost use Rattle.lk_types.specs.Tables.{column_values};
-ghost use Rattle.lk_semantics.specs.Measures.{greater, greatest_of};
+ghost use Rattle.lk_semantics.specs.Measures.{greatest_of};
 ghost use Rattle.lk_trigger.specs.Builds.{rows_of_each, trigger_value, watched};
 
-use lk_table::{RowsRef, TableVersion, rows};
+use lk_table::{TableVersion, rows};
 use lk_types::{Trigger, day_of_moment};
 use lk_val::{Num, ValueRef};
-use std::cmp::Ordering;
 
 // The value of a datagroup, null where it watches nothing.
 pub(crate) fn trigger_value(
@@ -46,28 +45,9 @@ fn greatest_at(tables: &[TableVersion], table: u32, column: u32) -> ValueRef<'_>
         ≡ greatest_of (column_values (slice_index_or (rows_of_each tables.now) table []) column) }
 {
     match tables.get(table as usize) {
-        Some(version) => greatest(version, column),
+        Some(version) => version.greatest(column),
         None => ValueRef::Null,
     }
-}
-
-fn greatest(version: &TableVersion, column: u32) -> ValueRef<'_>
-    ensures { value_of_ref result ≡ greatest_of (column_values version.now.rows column) }
-{
-    let rows = RowsRef::Version(version);
-    let mut most = ValueRef::Null;
-    for row in 0..rows.len() {
-        most = greater(rows.cell(row, column), most);
-    }
-    most
-}
-
-// The greater of two values: null comes first.
-#[tactic(auto, using(crate::proofs::GreatestLaws::greater_by))]
-fn greater<'a>(a: ValueRef<'a>, b: ValueRef<'a>) -> ValueRef<'a>
-    ensures { value_of_ref result ≡ greater (value_of_ref a.entry) (value_of_ref b.entry) }
-{
-    if a.cmp(b) == Ordering::Greater { a } else { b }
 }
 
 // The number of rows of a table.

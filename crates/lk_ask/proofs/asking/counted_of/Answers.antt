@@ -1,17 +1,16 @@
 use Rattle.std.proofs.Common.{◌≡◌, ◌+◌, length, of_z, subst, sym, to_z, true, w64}
 use Rattle.std.proofs.lemmas.Int.{to_z-of_z}
-use Rattle.lk_semantics.specs.DatedRows.{are_joins_dated, are_sources_dated}
-use Rattle.lk_semantics.specs.Derived.{explore_at, sources_of}
+use Rattle.lk_semantics.specs.DatedRows.{are_joins_dated}
+use Rattle.lk_semantics.specs.Derived.{explore_at}
 use Rattle.lk_types.specs.declared.bound.Bound.{Bound}
 use Rattle.lk_types.specs.declared.explore.Explore.{Explore}
 use Rattle.lk_filter.specs.PlacedModel.{placed_explore, placed_model}
 use Rattle.lk_gather.specs.Asked.{IsPlan}
 use Rattle.lk_gather.specs.Measures.{is_fine_explore}
 use Rattle.lk_plan.proofs.ResolvedLaws.{resolved_at}
-use Rattle.lk_plan.proofs.SourceLaws.{dated}
 use Rattle.lk_ask.specs.Counts.{IsCounted}
-use Rattle.lk_ask.proofs.AskLaws.{is_plan}
-use Rattle.lk_ask.proofs.MomentLaws.{explore_is}
+use Rattle.lk_gather.proofs.PlanLaws.{is_plan}
+use Rattle.lk_placed_laws.proofs.RouteLaws.{explore_is}
 use Rattle.lk_ask.proofs.asking.counted_of.Goals as goal
 
 pub counted_by-requires-clause-parts : goal.counted_by-requires-clause-parts
@@ -37,23 +36,20 @@ counted_by-requires-clause-conditions c =
 
 pub counted_by-requires-clause-tables : goal.counted_by-requires-clause-tables
 counted_by-requires-clause-tables c =
-    let m = c.args.m.now in
-    let t = c.requires.tables.tables in
-    subst (λ s. are_sources_dated s ≡ true) (sym c.requires.tables.rows) (dated m t c.requires.model c.requires.tables.valid)
+    c.rows_read_are_dated.ensures c.args.m.now c.args.sources.now c.args.bound.now c.requires.model c.requires.tables
 
 pub counted_by-requires-clause-plan : goal.counted_by-requires-clause-plan
 counted_by-requires-clause-plan c =
     let m = c.args.m.now in
     let b = c.args.bound.now in
+    let s = c.args.sources.now in
     let x = explore_at m b.explore in
-    let t = c.requires.tables.tables in
     let fine = resolved_at m c.requires.model b.explore c.requires.bound.explore in
-    subst (λ y. IsPlan y c.args.sources.now c.in_ok-plan.plan) (sym c.explore_of-x.ensures)
-    (subst (λ s. IsPlan x s c.in_ok-plan.plan) (sym c.requires.tables.rows)
-    (is_plan x (sources_of m t) b _ _ c.in_ok-plan.plan c.in_ok-plan.ensures.bound c.in_ok-plan.ensures.visible c.in_ok-plan.ensures.passing
-    (c.joined_rows_meet_conditions.ensures.visible m t b c.requires.model c.requires.bound c.requires.tables.valid)
-    (c.joined_rows_meet_conditions.ensures.passing m t b c.requires.model c.requires.bound c.requires.tables.valid)
-    (c.conditions_are_dated.ensures.visible m x b fine) (c.conditions_are_dated.ensures.passing m x b fine)))
+    subst (λ y. IsPlan y s c.in_ok-plan.plan) (sym c.explore_of-x.ensures)
+    (is_plan x s b _ _ c.in_ok-plan.plan c.in_ok-plan.ensures.bound c.in_ok-plan.ensures.visible c.in_ok-plan.ensures.passing
+    (c.joined_rows_meet_conditions.ensures.visible m s b c.requires.model c.requires.bound c.requires.tables)
+    (c.joined_rows_meet_conditions.ensures.passing m s b c.requires.model c.requires.bound c.requires.tables)
+    (c.conditions_are_dated.ensures.visible m x b fine) (c.conditions_are_dated.ensures.passing m x b fine))
 
 pub returns : goal.returns
 returns c =

@@ -1,8 +1,9 @@
 use Rattle.std.proofs.Common.{◌∙◌, ap}
 use Rattle.lk_semantics.specs.Derived.{explore_at}
 use Rattle.lk_semantics.specs.Rows.{visible_rows}
-use Rattle.lk_gather.proofs.PlacedLaws.{visible_are}
-use Rattle.lk_ask.proofs.MomentLaws.{explore_is, sources_are}
+use Rattle.lk_placed_laws.proofs.PlacedLaws.{visible_are}
+use Rattle.lk_placed_laws.proofs.RouteLaws.{explore_is}
+use Rattle.lk_ask.proofs.MomentLaws.{sources_are}
 use Rattle.lk_ask.proofs.laws.rows_depend_on_no_moment.Goals as goal
 
 pub returns-clause-visible : goal.returns-clause-visible

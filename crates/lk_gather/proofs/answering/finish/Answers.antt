@@ -7,7 +7,7 @@ use Rattle.lk_semantics.specs.Measures.{first_conflict}
 use Rattle.lk_filter.specs.PlacedModel.{placed_explore}
 use Rattle.lk_gather.specs.Asked.{does_pass, given_of}
 use Rattle.lk_gather.proofs.AnswerLaws.{rows_ascend}
-use Rattle.lk_gather.proofs.PlacedLaws.{lines_are}
+use Rattle.lk_placed_laws.proofs.PlacedLaws.{lines_are, query_components_are}
 use Rattle.lk_gather.proofs.answering.finish.Goals as goal
 
 pub returns-in_ok-answer_lines-in-Ok-clause-answer :
@@ -29,8 +29,8 @@ returns-in_ok-answer_lines-in-Ok-clause-answer c = λ now count seen h.
     ∙ ap (λ groups. cut b.limit (lines_of x b groups)) done.1
     ∙ sym (ap (λ conflict. answer_unless components conflict (cut b.limit (lines_of x b (rows_grouped x dims components passing)))) done.0)
 
-pub returns-in-Err-clause-answer : goal.returns-in-Err-clause-answer
-returns-in-Err-clause-answer c = λ now count seen h.
+pub returns-in_ok-components-in-Err-clause-answer : goal.returns-in_ok-components-in-Err-clause-answer
+returns-in_ok-components-in-Err-clause-answer c = λ now count seen h.
     let x = placed_explore now c.args.explore.now in
     let plan = c.args.plan.now in
     let b = plan.bound in
@@ -41,5 +41,6 @@ returns-in-Err-clause-answer c = λ now count seen h.
     let regular = c.given_rows_are_regular.ensures x dims components passing in
     let lines = cut b.limit (lines_of x b (rows_grouped x dims components passing)) in
     let conflict = first_conflict (length dims) (ops_of x components) given in
-    subst (λ numbers. IfOk c.refused_by.result (λ answer. answer ≡ answer_unless numbers conflict lines)) (c.requires now)
+    let numbers = c.as_slice.ensures ∙ c.in_ok-components-in-Err.ensures ∙ sym (query_components_are now c.args.explore.now b) in
+    subst (λ ns. IfOk c.refused_by.result (λ answer. answer ≡ answer_unless ns conflict lines)) numbers
     (c.refused_by.ensures.answer conflict lines (c.in-Err.ensures.conflict (length dims) (ops_of x components) given h.taken regular))

@@ -1,7 +1,7 @@
 -- The batches so far, and those of the tables to come.
 use Rattle.std.proofs.Common.{◌≡◌, ◌++◌, ◌+◌, ◌<◌, length}
 use Rattle.std.specs.List.{All}
-use Rattle.lk_edition.specs.Openings.{Seed}
+use Rattle.lk_state.specs.Openings.{Seed}
 use Rattle.lk_serve.specs.Opened.{numbered}
 use Rattle.lk_serve.proofs.opening.numbered.Given as goal
 

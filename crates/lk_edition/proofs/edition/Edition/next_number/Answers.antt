@@ -1,7 +1,7 @@
 use Rattle.std.proofs.Common.{arith, map}
 use Rattle.std.specs.Arc.{arc_value}
+use Rattle.lk_state.proofs.ContentLaws.{number_small}
 use Rattle.lk_edition.specs.Editions.{state_of}
-use Rattle.lk_edition.proofs.ContentLaws.{number_small}
 use Rattle.lk_edition.proofs.edition.Edition.next_number.Goals as goal
 
 pub overflow_add-result : goal.overflow_add-result

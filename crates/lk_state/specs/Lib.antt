@@ -1,0 +1,4 @@
+pub mod States
+pub mod Limits
+pub mod Tables
+pub mod Openings
