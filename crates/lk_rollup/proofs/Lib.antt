@@ -1,0 +1,3 @@
+pub mod StoredLaws
+pub mod StoredGroups
+pub mod ValueLaws

@@ -1,0 +1,12 @@
+//! Aggregate tables and derived tables, made of the tables that their queries read.
+#![tactic(auto)]
+
+mod building;
+mod derivation;
+mod fault;
+mod stored;
+mod values;
+
+pub use building::{RollupRows, build};
+pub use derivation::derive;
+pub use fault::BuildFault;
