@@ -7,9 +7,10 @@ ghost use Rattle.lk_types.specs.declared.rows.Tables.{Tables};
 ghost use Rattle.lk_semantics.specs.Derived.{explore_at, sources_of};
 ghost use Rattle.lk_semantics.specs.Resolved.{IsInModel, IsResolved};
 ghost use Rattle.lk_semantics.specs.Rows.{visible_rows};
+ghost use Rattle.lk_derived.specs.ReadRows.{HasRowsFor, whole};
 ghost use Rattle.lk_filter.specs.PlacedModel.{placed_model};
 ghost use Rattle.lk_schema.specs.declared.users.Users.{Users};
-ghost use Rattle.lk_ask.specs.Asks.{IsAsked, told_of};
+ghost use Rattle.lk_ask.specs.Asks.{IsAsked, told_of, told_over};
 ghost use Rattle.lk_ask.specs.declared.fault.AskFault.{AskFault};
 ghost use Rattle.lk_ask.specs.declared.told.Told.{Told};
 
@@ -45,4 +46,11 @@ pub fn rows_depend_on_no_moment()
     ensures visible { (m : Model) (now : ℤ) (s : Sources) (b : Bound)
         → visible_rows (explore_at (placed_model now m) b.explore) s b ≡ visible_rows (explore_at m b.explore) s b }
     ensures derived { (m : Model) (now : ℤ) (t : Tables) → IsResolved m → sources_of (placed_model now m) t ≡ sources_of m t }
+{}
+
+/// A query of a resolved model is told the same over tables that have the rows which it reads as over all, at each moment. A
+/// law: it computes nothing.
+pub fn rows_read_decide_what_is_told()
+    ensures { (m : Model) (now : ℤ) (s : Sources) (b : Bound) → HasRowsFor m s b
+        → told_over (explore_at (placed_model now m) b.explore) s b ≡ told_over (explore_at (placed_model now m) b.explore) (whole m s) b }
 {}

@@ -9,7 +9,7 @@ mod told;
 pub use asking::{answer_bound, ask};
 pub use fault::AskFault;
 pub use laws::{
-    bodies_are_told_one_thing, rows_depend_on_no_moment, told_queries_are_in_their_model,
-    visible_rows_decide_what_is_told,
+    bodies_are_told_one_thing, rows_depend_on_no_moment, rows_read_decide_what_is_told,
+    told_queries_are_in_their_model, visible_rows_decide_what_is_told,
 };
 pub use told::Told;

@@ -64,7 +64,7 @@ refusal_reply status body = record { status = status; csv = false; body = refusa
 abbrev pub load_refusal : LoadFault → Reply
 load_refusal f = refusal_reply (load_status f) (load_refusal_data f)
 
--- the store could not save the load (K1)
+-- the store could not save the load or the check (K1)
 abbrev pub unsaved_reply : Reply
 unsaved_reply = refusal_reply 503 (bare_data (codes "K1"))
 
@@ -72,10 +72,12 @@ unsaved_reply = refusal_reply 503 (bare_data (codes "K1"))
 
 abbrev pub check_refusal_data : CheckFault → Data
 check_refusal_data (check.G1 user) = named_data (codes "G1") (codes "user") user
+check_refusal_data (check.G2 table) = named_data (codes "G2") (codes "table") table
 check_refusal_data check.NoMemory = bare_data (codes "memory")
 
 abbrev pub check_status : CheckFault → ℕ
 check_status (check.G1 user) = 403
+check_status (check.G2 table) = 413
 check_status check.NoMemory = 507
 
 abbrev pub check_refusal : CheckFault → Reply

@@ -1,6 +1,7 @@
 -- The replies to loads and checks that are accepted, in compact JSON with the keys in the order of their bytes. (lookd)
-use Rattle.std.specs.Prelude.{ℕ, false, List, codes}
-use Rattle.serde_json.specs.Data.{Data, array, member, no_items, no_members, number, object, unsigned}
+use Rattle.std.specs.Prelude.{ℕ, false, List, map, codes}
+use Rattle.serde_json.specs.Data.{Data, array, member, no_members, number, object, string, unsigned}
+use Rattle.serde_json.specs.View.{items_of}
 use Rattle.serde_json.specs.Written.{compact_text}
 use Rattle.lk_types.specs.declared.answer.Reply.{Reply}
 
@@ -19,13 +20,13 @@ load_reply rows snapshot = record { status = 200; csv = false; body = load_text 
 
 -- ---- checks
 
--- no datagroup was built, and the number of the last state
-abbrev pub unbuilt_data : ℕ → Data
-unbuilt_data snapshot =
-    object (member (codes "built") (array no_items) (member (codes "snapshot") (number (unsigned snapshot)) no_members))
+-- the names of the datagroups that a check built, and the number of the last state
+abbrev pub built_data : List (List ℕ) → ℕ → Data
+built_data names snapshot =
+    object (member (codes "built") (array (items_of (map string names))) (member (codes "snapshot") (number (unsigned snapshot)) no_members))
 
-unfoldable pub unbuilt_text : ℕ → List ℕ
-unbuilt_text snapshot = compact_text (unbuilt_data snapshot)
+unfoldable pub built_text : List (List ℕ) → ℕ → List ℕ
+built_text names snapshot = compact_text (built_data names snapshot)
 
-abbrev pub unbuilt_reply : ℕ → Reply
-unbuilt_reply snapshot = record { status = 200; csv = false; body = unbuilt_text snapshot }
+abbrev pub built_reply : List (List ℕ) → ℕ → Reply
+built_reply names snapshot = record { status = 200; csv = false; body = built_text names snapshot }

@@ -50,6 +50,9 @@ impl<T: Drop> From<AllocFailed<T>> for LoadFault {
 pub enum CheckFault {
     /// The user of the name has no attribute `loader`. (G1)
     G1(Text),
+    /// The build of the name would have more than 1,000,000 cells; or, with an empty name, the state's number would be over
+    /// 9,223,372,036,854,775,807. (G2)
+    G2(Text),
     /// Want of memory.
     NoMemory,
 }

@@ -8,4 +8,4 @@ mod replies;
 
 pub use fault::{CheckFault, LoadFault};
 pub use refusals::{reply_check_refusal, reply_load_refusal, reply_unsaved};
-pub use replies::{load_reply, unbuilt_reply};
+pub use replies::{built_reply, load_reply};

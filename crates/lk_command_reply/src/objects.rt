@@ -55,7 +55,8 @@ pub(crate) fn text_of(alloc: Global, value: Result<Value, NoMemory>) -> Result<B
     printed(alloc, &value)
 }
 
-fn printed(alloc: Global, value: &Value) -> Result<Bytes, NoMemory>
+/// The text of a value.
+pub(crate) fn printed(alloc: Global, value: &Value) -> Result<Bytes, NoMemory>
     ensures { IfOk result (λ text. has_float (view value.now) ≡ false → text ≡ compact_text (view value.now)) }
 {
     let text = value.to_string(alloc)?;

@@ -21,7 +21,7 @@ pub fn reply_load_refusal(alloc: Global, fault: &LoadFault) -> Result<Reply, NoM
     refusal_reply(alloc, load_status(fault), load_refusal_data(alloc, fault))
 }
 
-/// The reply to a load that the store could not save (K1).
+/// The reply to a load or a check that the store could not save (K1).
 pub fn reply_unsaved(alloc: Global) -> Result<Reply, NoMemory>
     ensures { IfOk result (λ reply. reply ≡ unsaved_reply) }
 {
@@ -37,6 +37,11 @@ pub fn reply_check_refusal(alloc: Global, fault: &CheckFault) -> Result<Reply, N
             alloc,
             403,
             named(alloc, "G1", "user", user.as_str()),
+        ),
+        CheckFault::G2(table) => refusal_reply(
+            alloc,
+            413,
+            named(alloc, "G2", "table", table.as_str()),
         ),
         CheckFault::NoMemory => refusal_reply(alloc, 507, bare(alloc, "memory")),
     }

@@ -1,11 +1,11 @@
-ghost use Rattle.std.specs.Prelude.{◌≡◌, IfOk, OnOk, codes};
-ghost use Rattle.serde_json.specs.Data.{array, no_items, number, put as with_member, unsigned};
-ghost use Rattle.serde_json.specs.View.{members_view, view};
-ghost use Rattle.lk_command_reply.specs.Replies.{load_data, load_reply, load_text, unbuilt_data, unbuilt_reply, unbuilt_text};
+ghost use Rattle.std.specs.Prelude.{◌≡◌, IfOk, OnOk, codes, map};
+ghost use Rattle.serde_json.specs.Data.{array, number, put as with_member, string, unsigned};
+ghost use Rattle.serde_json.specs.View.{items_of, members_view, view};
+ghost use Rattle.lk_command_reply.specs.Replies.{built_data, built_reply, built_text, load_data, load_reply, load_text};
 
-use crate::objects::{object_of, put_number, text_of};
+use crate::objects::{object_of, printed, put_number, text_of};
 use lk_types::Reply;
-use lk_val::{Bytes, NoMemory};
+use lk_val::{Bytes, Items, NoMemory, Text};
 use serde_json::{Map, Value, put};
 use std::alloc::{AllocError, Global};
 
@@ -49,41 +49,62 @@ fn put_load(
     put_number(alloc, members, "snapshot", snapshot)
 }
 
-/// The reply to a check that built nothing: no datagroup, and the number of the state, which stays. (lookd)
-pub fn unbuilt_reply(alloc: Global, snapshot: u64) -> Result<Reply, NoMemory>
-    ensures { IfOk result (λ reply. reply ≡ unbuilt_reply snapshot) }
+/// The reply to a check: the names of the datagroups that it built, and the number of the state, which stays where it built none.
+/// (lookd)
+pub fn built_reply(alloc: Global, names: Items<Text>, snapshot: u64) -> Result<Reply, NoMemory>
+    ensures { IfOk result (λ reply. reply ≡ built_reply names snapshot) }
 {
     Ok(Reply {
         status: 200,
         csv: false,
-        body: unbuilt_text(alloc, snapshot)?,
+        body: built_text(alloc, names, snapshot)?,
     })
 }
 
-#[tactic(auto, unfolding(crate::specs::Replies::unbuilt_text))]
-fn unbuilt_text(alloc: Global, snapshot: u64) -> Result<Bytes, NoMemory>
-    ensures { IfOk result (λ text. text ≡ unbuilt_text snapshot) }
+fn built_text(alloc: Global, names: Items<Text>, snapshot: u64) -> Result<Bytes, NoMemory>
+    ensures { IfOk result (λ text. text ≡ built_text names snapshot) }
 {
-    text_of(alloc, unbuilt_value(alloc, snapshot))
+    let value = built_value(alloc, names, snapshot)?;
+    let text = printed(alloc, &value)?;
+    Ok(text)
 }
 
-fn unbuilt_value(alloc: Global, snapshot: u64) -> Result<Value, NoMemory>
-    ensures { IfOk result (λ value. view value ≡ unbuilt_data snapshot) }
+fn built_value(alloc: Global, names: Items<Text>, snapshot: u64) -> Result<Value, NoMemory>
+    ensures { IfOk result (λ value. view value ≡ built_data names snapshot) }
 {
+    let names = names_value(alloc, names)?;
     let mut members = Map::new(alloc);
-    let put = put_unbuilt(alloc, &mut members, snapshot);
+    let put = put_built(alloc, &mut members, names, snapshot);
     object_of(members, put)
 }
 
-fn put_unbuilt(
+fn put_built(
     alloc: Global,
     members: &mut Map<String, Value>,
+    names: Value,
     snapshot: u64,
 ) -> Result<(), AllocError>
     ensures { OnOk result (members_view members.new.entries
         ≡ with_member (codes "snapshot") (number (unsigned snapshot))
-        (with_member (codes "built") (array no_items) (members_view members.old.entries))) }
+        (with_member (codes "built") (view names) (members_view members.old.entries))) }
 {
-    put(members, alloc, "built", Value::Array(Vec::new(alloc)))?;
+    put(members, alloc, "built", names)?;
     put_number(alloc, members, "snapshot", snapshot)
+}
+
+// The names in a list.
+fn names_value(alloc: Global, names: Items<Text>) -> Result<Value, NoMemory>
+    ensures { IfOk result (λ value. view value ≡ array (items_of (map string names))) }
+{
+    let mut texts = Vec::new(alloc);
+    for name in names.into_vec() {
+        texts.push(text_value(name))?;
+    }
+    Ok(Value::Array(texts))
+}
+
+fn text_value(text: Text) -> Value
+    ensures { view result ≡ string text }
+{
+    Value::String(text.into_string())
 }

@@ -1,1 +1,5 @@
+pub mod HistoryLaws
 pub mod OfficeLaws
+pub mod OpeningLaws
+pub mod PlanLaws
+pub mod StandingLaws

@@ -1,4 +1,5 @@
 pub mod Standings
+pub mod Histories
 pub mod Plans
 pub mod Loads
 pub mod Openings

@@ -9,6 +9,7 @@ use Rattle.lk_table.specs.Contents.{Content}
 use Rattle.lk_table.specs.declared.fault.BatchFault.{BatchFault}
 use Rattle.lk_table.specs.declared.fault.BatchFault.TheVariants as batch
 use Rattle.lk_load.specs.Loading.{LoadedTable, table_loaded}
+use Rattle.lk_ledger.specs.Saving.{load}
 use Rattle.lk_ledger.specs.declared.command.Command.{Command}
 use Rattle.lk_ledger.specs.declared.kept.KeptId.{KeptId}
 use Rattle.lk_command_reply.specs.Replies.{load_reply}
@@ -67,10 +68,11 @@ command_of s call loaded = record {
   body = loaded.text;
 }
 
+-- the edition after a load; no datagroup is built
 abbrev pub planned : Standing → LoadCall → ℕ → LoadedTable → Planned
 planned e call number loaded = record {
-  standing = record { model = e.model; users = e.users; state = state_after e.state call number loaded };
-  command = command_of e.state call loaded;
+  standing = record { model = e.model; users = e.users; state = state_after e.state call number loaded; builds = e.builds; keeps = e.keeps };
+  save = load (command_of e.state call loaded);
   reply = load_reply loaded.rows (e.state.number + 1);
 }
 
@@ -85,7 +87,7 @@ over_batch e call number (Ok loaded) = unless_over (planned e call number loaded
 
 -- a kept load gets its reply again, whatever its body is
 abbrev pub unless_kept : Standing → LoadCall → ℕ → Option KeptId → Result LoadPlan LoadFault
-unless_kept e call number (Some load) = Ok (plan.Kept (load_reply load.rows load.number))
+unless_kept e call number (Some kept) = Ok (plan.Kept (load_reply kept.rows kept.number))
 unless_kept e call number None =
     over_batch e call number
     (table_loaded (def_at e.model.schema.tables number) (content_at e.state.tables number).rows call.body call.replace)

@@ -1,22 +1,23 @@
-ghost use Rattle.std.specs.Prelude.{◌≡◌, ◌≤◌, IfErr, IfOk, IfSome, OnErr, OnOk, Ok, Err};
+ghost use Rattle.std.specs.Prelude.{◌≡◌, ◌≤◌, IfErr, IfOk, OnErr, OnOk, Ok, Err};
 ghost use Rattle.std.specs.Arc.{arc_value};
 ghost use Rattle.lk_val.specs.Memory.{IsUnlessMemory, Unless};
+ghost use Rattle.lk_val.specs.Years.{IsMomentInYears};
 ghost use Rattle.lk_ledger.specs.Causes.{HasKeepCause};
-ghost use Rattle.lk_ledger.specs.Saving.{load, told_after};
+ghost use Rattle.lk_ledger.specs.Saving.{told_after};
 ghost use Rattle.lk_state.specs.Openings.{AreSeeds, is_no_memory as is_without_memory};
 ghost use Rattle.lk_state.specs.declared.fault.OpenFault.TheVariants as fault;
 ghost use Rattle.lk_edition.specs.Checks.{check_planned, is_no_memory as is_no_memory_check};
 ghost use Rattle.lk_edition.specs.Loads.{is_no_memory, load_planned};
 ghost use Rattle.lk_edition.specs.Offices.{Begins, HasOpenCause, IsOpening, IsPlanned, is_outside, standing_in};
 ghost use Rattle.lk_edition.specs.Openings.{standing_opened};
-ghost use Rattle.lk_edition.specs.Standings.{IsServed};
+ghost use Rattle.lk_edition.specs.Standings.{IsAnswerable};
 
 use crate::call::LoadCall;
 use crate::checking::plan_check;
 use crate::edition::Edition;
 use crate::loading::plan_load;
 use crate::office::{Office, Unopened};
-use crate::plan::{LoadPlan, Pending};
+use crate::plan::{CheckPlan, LoadPlan, Pending, ToSave};
 use lk_command_reply::{CheckFault, LoadFault};
 use lk_ledger::{KeepFault, Keeper, Kept};
 use lk_schema::Users;
@@ -28,8 +29,8 @@ use std::sync::Arc;
 
 impl<K: Keeper> Office<K> {
     /// The office over what a store kept: its batches in their order, and then each seed, a batch in place of the rows of
-    /// the table of a number. `Store` comes only where the store's count of faults rose; the other faults are those of the
-    /// definition. The store keeps what it held.
+    /// the table of a number. All datagroups are built over its tables at the moment `now`. `Store` comes only where the store's
+    /// count of faults rose; the other faults are those of the definition. The store keeps what it held.
     #[tactic(auto, using(crate::proofs::OfficeLaws::opening, crate::proofs::OfficeLaws::not_opening))]
     pub fn open(
         alloc: Global,
@@ -37,13 +38,15 @@ impl<K: Keeper> Office<K> {
         users: Users,
         keeper: K,
         seeds: &[(u32, Bytes)],
+        now: i64,
     ) -> Result<Office<K>, Unopened<K>>
-        requires model { IsServed model }
+        requires model { IsAnswerable model }
         requires seeds { AreSeeds model.schema.tables seeds.now }
-        ensures opened { IfOk result (λ office. IsOpening model users (Begins (K.held keeper) (K.handed keeper)) seeds.now
+        requires years { IsMomentInYears now }
+        ensures opened { IfOk result (λ office. IsOpening model users (Begins (K.held keeper) (K.handed keeper)) seeds.now now
             (Ok (standing_in office))) }
         ensures fault { IfErr result (λ unopened. Unless (is_outside unopened.fault)
-            (IsOpening model users (Begins (K.held keeper) (K.handed keeper)) seeds.now (Err unopened.fault))) }
+            (IsOpening model users (Begins (K.held keeper) (K.handed keeper)) seeds.now now (Err unopened.fault))) }
         ensures kept_ok { IfOk result (λ office. K.held office.keeper ≡ K.held keeper) }
         ensures kept_err { IfErr result (λ unopened. K.held unopened.keeper ≡ K.held keeper) }
         ensures cause_ok { IfOk result (λ office. K.faults keeper ≤ K.faults office.keeper) }
@@ -51,7 +54,7 @@ impl<K: Keeper> Office<K> {
     {
         let mut keeper = keeper;
         match keeper.load_all(alloc) {
-            Ok(kept) => open_over(alloc, model, users, keeper, kept, seeds),
+            Ok(kept) => open_over(alloc, model, users, keeper, kept, seeds, now),
             Err(KeepFault::Failed) => Err(Unopened {
                 fault: OpenFault::Store,
                 keeper,
@@ -78,32 +81,36 @@ impl<K: Keeper> Office<K> {
         plan_load(alloc, &*self.edition, call)
     }
 
-    /// What a check comes to on the present edition, whose model has no datagroups: the reply that nothing was built, or the
-    /// refusal (G1).
-    pub fn plan_check(&self, alloc: Global, user: &Text) -> Result<Reply, CheckFault>
-        ensures { IsUnlessMemory is_no_memory_check result (check_planned (standing_in self.now) user.now) }
+    /// What a check at a moment comes to on the present edition: its plan, by which all datagroups that trigger are built over the
+    /// present tables, the reply where none triggers, or the first refusal (G1, G2). It changes nothing.
+    pub fn plan_check(&self, alloc: Global, user: &Text, now: i64) -> Result<CheckPlan, CheckFault>
+        requires { IsMomentInYears now }
+        ensures { IsUnlessMemory is_no_memory_check result (check_planned (standing_in self.now) user.now now) }
     {
-        plan_check(alloc, &*self.edition, user)
+        plan_check(alloc, &*self.edition, user, now)
     }
 
-    /// Commits a load that was planned on the present edition: saves it, and only then moves to the edition after it. After a
-    /// fault the office is as it was, and so is what the store tells; `Failed` comes only where the store's count of faults
-    /// rose.
+    /// Commits a load or a check that was planned on the present edition: saves it, and only then moves to the edition after it.
+    /// After a fault the office is as it was, and so is what the store tells; `Failed` comes only where the store's count of
+    /// faults rose.
     pub fn commit(&mut self, alloc: Global, pending: Pending) -> Result<Reply, KeepFault>
         requires { IsPlanned (standing_in self.old) pending }
         ensures reply { IfOk result (λ reply. reply ≡ pending.reply) }
         ensures moved { OnOk result (standing_in self.new ≡ pending.standing) }
-        ensures saved { OnOk result (K.held self.new.keeper ≡ told_after (load pending.command) (K.held self.old.keeper)) }
+        ensures saved { OnOk result (K.held self.new.keeper ≡ told_after pending.save (K.held self.old.keeper)) }
         ensures stays { OnErr result (standing_in self.new ≡ standing_in self.old) }
         ensures unsaved { OnErr result (K.held self.new.keeper ≡ K.held self.old.keeper) }
         ensures cause { HasKeepCause (K.faults self.old.keeper) (K.faults self.new.keeper) result }
     {
         let Pending {
             edition,
-            command,
+            save,
             reply,
         } = pending;
-        self.keeper.save_load(alloc, &command)?;
+        match save {
+            ToSave::Load(command) => self.keeper.save_load(alloc, &command)?,
+            ToSave::Check(number) => self.keeper.save_check(alloc, number)?,
+        }
         self.edition = edition;
         Ok(reply)
     }
@@ -124,17 +131,19 @@ fn open_over<K: Keeper>(
     keeper: K,
     kept: Kept,
     seeds: &[(u32, Bytes)],
+    now: i64,
 ) -> Result<Office<K>, Unopened<K>>
-    requires model { IsServed model }
+    requires model { IsAnswerable model }
     requires seeds { AreSeeds model.schema.tables seeds.now }
-    ensures opened { IfOk result (λ office. standing_opened model users kept seeds.now ≡ Ok (standing_in office)) }
+    requires years { IsMomentInYears now }
+    ensures opened { IfOk result (λ office. standing_opened model users kept seeds.now now ≡ Ok (standing_in office)) }
     ensures fault { IfErr result (λ unopened. Unless (is_outside unopened.fault)
-        (standing_opened model users kept seeds.now ≡ Err unopened.fault)) }
+        (standing_opened model users kept seeds.now now ≡ Err unopened.fault)) }
     ensures keeper_ok { IfOk result (λ office. office.keeper ≡ keeper) }
     ensures keeper_err { IfErr result (λ unopened. unopened.keeper ≡ keeper) }
     ensures never { IfErr result (λ unopened. unopened.fault ≡ fault.Store → ⊥) }
 {
-    match share_opening(alloc, model, users, kept, seeds) {
+    match share_opening(alloc, model, users, kept, seeds, now) {
         Ok(edition) => Ok(Office { edition, keeper }),
         Err(fault) => Err(Unopened { fault, keeper }),
     }
@@ -146,14 +155,16 @@ fn share_opening(
     users: Users,
     kept: Kept,
     seeds: &[(u32, Bytes)],
+    now: i64,
 ) -> Result<Arc<Edition>, OpenFault>
-    requires model { IsServed model }
+    requires model { IsAnswerable model }
     requires seeds { AreSeeds model.schema.tables seeds.now }
-    ensures ok { IfOk result (λ edition. standing_opened model users kept seeds.now ≡ Ok (arc_value edition)) }
+    requires years { IsMomentInYears now }
+    ensures ok { IfOk result (λ edition. standing_opened model users kept seeds.now now ≡ Ok (arc_value edition)) }
     ensures err { IfErr result (λ fault. Unless (is_without_memory fault)
-        (standing_opened model users kept seeds.now ≡ Err fault)) }
+        (standing_opened model users kept seeds.now now ≡ Err fault)) }
     ensures never { IfErr result (λ why. why ≡ fault.Store → ⊥) }
 {
-    let edition = Edition::open(alloc, model, users, kept, seeds)?;
+    let edition = Edition::open(alloc, model, users, kept, seeds, now)?;
     Ok(Arc::new(alloc, edition)?)
 }

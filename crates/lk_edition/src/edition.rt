@@ -1,15 +1,17 @@
 ghost use Rattle.std.specs.Prelude.{◌≡◌, ◌+◌, ◌++◌, ◌∷◌, [], IfOk, false, map, option_map};
 ghost use Rattle.std.specs.Arc.{arc_value};
+ghost use Rattle.lk_fill.specs.Orders.{IsDeriveOrder};
 ghost use Rattle.lk_state.specs.Limits.{is_over};
 ghost use Rattle.lk_state.specs.States.{AreTables, sources_at};
-ghost use Rattle.lk_edition.specs.Editions.{standing_of};
+ghost use Rattle.lk_edition.specs.Editions.{standing_of, standing_with, state_of};
 ghost use Rattle.lk_edition.specs.Loads.{kept_load};
-ghost use Rattle.lk_edition.specs.Standings.{IsAnswerable, IsStanding};
+ghost use Rattle.lk_edition.specs.Standings.{IsStanding};
 
+use lk_keeps::Keeps;
 use lk_ledger::KeptId;
 use lk_schema::Users;
-use lk_state::share_tables;
-use lk_table::{StoredTables, TableSet, TableVersion};
+use lk_table::{StoredTables, TableSet, TableVersion, share_tables};
+use lk_trigger::Build;
 use lk_types::Model as Project;
 use lk_val::{Items, NoMemory, Text};
 use std::alloc::Global;
@@ -21,9 +23,19 @@ use std::sync::Arc;
 pub(crate) struct Base {
     pub(crate) model: Project,
     pub(crate) users: Users,
+    // An order in which the derived tables can be made.
+    pub(crate) order: Items<u32>,
 }
 
-/// The server's tables at a snapshot, with its model and its users. Readers share it. (lookd)
+// When each datagroup was built last, and what is kept of the builds: editions share it until a check builds anew.
+#[derive(Drop)]
+pub(crate) struct Made {
+    pub(crate) builds: Items<Build>,
+    pub(crate) keeps: Keeps,
+}
+
+/// The server's tables at a snapshot, with its model, its users and what is kept of the builds of datagroups. Readers share it.
+/// (lookd)
 #[derive(Drop)]
 pub struct Edition {
     base: Arc<Base>,
@@ -34,12 +46,13 @@ pub struct Edition {
     set: TableSet,
     // The loads that are kept, in order.
     loads: Items<Arc<KeptId>>,
+    made: Arc<Made>,
 }
 
 impl Model for Edition {
     ghost use Rattle.std.specs.Prelude.{map};
     ghost use Rattle.std.specs.Arc.{arc_value};
-    ghost use Rattle.lk_edition.specs.Editions.{IsEdition, standing_of};
+    ghost use Rattle.lk_edition.specs.Editions.{IsEdition, standing_of, state_of};
     ghost use Rattle.lk_edition.specs.Standings.{Standing};
 
     ghost Value = { Standing };
@@ -50,11 +63,11 @@ impl Model for Edition {
 
     ghost coded = { Prim.hlevel (codes, coded_formula, coded_calculation) };
 
-    ghost view = { λ edition. standing_of (arc_value edition.base) edition.number edition.tables
-        (map arc_value edition.loads) };
+    ghost view = { λ edition. standing_of (arc_value edition.base)
+        (state_of edition.number edition.tables (map arc_value edition.loads)) (arc_value edition.made) };
 
-    ghost invariant = { λ edition. IsEdition (arc_value edition.base) edition.number edition.tables
-        (map arc_value edition.loads) edition.set };
+    ghost invariant = { λ edition. IsEdition (arc_value edition.base)
+        (state_of edition.number edition.tables (map arc_value edition.loads)) (arc_value edition.made) edition.set };
 }
 
 impl Edition {
@@ -65,11 +78,12 @@ impl Edition {
         number: u64,
         tables: Items<TableVersion>,
         loads: Items<Arc<KeptId>>,
+        made: Arc<Made>,
     ) -> Result<Edition, NoMemory>
-        requires answerable { IsAnswerable (arc_value base).model }
-        requires tables { AreTables (arc_value base).model.schema.tables tables }
-        requires small { is_over (record { number = number; tables = tables; ids = map arc_value loads }) ≡ false }
-        ensures { IfOk result (λ edition. edition ≡ standing_of (arc_value base) number tables (map arc_value loads)) }
+        requires stands { IsStanding (standing_of (arc_value base) (state_of number tables (map arc_value loads)) (arc_value made)) }
+        requires order { IsDeriveOrder (arc_value base).model (arc_value base).order }
+        ensures { IfOk result (λ edition.
+            edition ≡ standing_of (arc_value base) (state_of number tables (map arc_value loads)) (arc_value made)) }
     {
         let shared = share_tables(alloc, tables.as_slice())?;
         Ok(Edition {
@@ -78,11 +92,12 @@ impl Edition {
             tables,
             set: TableSet::new(StoredTables::new(shared), Items::new(alloc)),
             loads,
+            made,
         })
     }
 
-    /// What always holds of an edition: queries are answered over its model, and its tables are those of the schema, within the
-    /// limits. A law: it computes nothing.
+    /// What always holds of an edition: queries are answered over its model, its tables are those of the schema, within the
+    /// limits, and each datagroup has a build, of which it keeps what valid tables gave. A law: it computes nothing.
     pub fn stands(&self)
         ensures { IsStanding self.now }
     {
@@ -115,6 +130,27 @@ impl Edition {
         ensures { result.now ≡ sources_at self.now.state }
     {
         &self.set
+    }
+
+    // When each datagroup was built last.
+    pub(crate) fn builds(&self) -> &[Build]
+        ensures { result.now ≡ self.now.builds }
+    {
+        self.made.builds.as_slice()
+    }
+
+    // What is kept of the builds.
+    pub(crate) fn keeps(&self) -> &Keeps
+        ensures { result.now ≡ self.now.keeps }
+    {
+        &self.made.keeps
+    }
+
+    // An order in which the derived tables can be made.
+    pub(crate) fn order(&self) -> &[u32]
+        ensures { IsDeriveOrder self.now.model result.now }
+    {
+        self.base.order.as_slice()
     }
 
     // What each table holds, by number.
@@ -152,7 +188,7 @@ impl Edition {
         Ok(loads)
     }
 
-    // The edition of the same model and users over other parts.
+    // The edition of the same model, users and builds over other parts.
     pub(crate) fn next(
         &self,
         alloc: Global,
@@ -161,14 +197,29 @@ impl Edition {
         loads: Items<Arc<KeptId>>,
     ) -> Result<Edition, NoMemory>
         requires tables { AreTables self.now.model.schema.tables tables }
-        requires small { is_over (record { number = number; tables = tables; ids = map arc_value loads }) ≡ false }
+        requires small { is_over (state_of number tables (map arc_value loads)) ≡ false }
         ensures { IfOk result (λ edition. edition ≡ record {
           model = self.now.model;
           users = self.now.users;
-          state = record { number = number; tables = tables; ids = map arc_value loads };
+          state = state_of number tables (map arc_value loads);
+          builds = self.now.builds;
+          keeps = self.now.keeps;
         }) }
     {
-        Edition::new(alloc, Arc::try_clone(&self.base)?, number, tables, loads)
+        let base = Arc::try_clone(&self.base)?;
+        let made = Arc::try_clone(&self.made)?;
+        Edition::new(alloc, base, number, tables, loads, made)
+    }
+
+    // The edition of the next number over the same tables and loads, where this was built.
+    pub(crate) fn next_made(&self, alloc: Global, made: Arc<Made>) -> Result<Edition, NoMemory>
+        requires { IsStanding (standing_with self.now (arc_value made)) }
+        ensures { IfOk result (λ edition. edition ≡ standing_with self.now (arc_value made)) }
+    {
+        let base = Arc::try_clone(&self.base)?;
+        let tables = share_tables(alloc, self.tables.as_slice())?;
+        let loads = share_loads(alloc, self.loads.as_slice())?;
+        Edition::new(alloc, base, self.next_number(), tables, loads, made)
     }
 }
 

@@ -1,10 +1,12 @@
-//! Editions of a server: tables at a snapshot with the model and the users, the office that opens, loads and saves them.
+//! Editions of a server: tables at a snapshot with the model, the users and what is kept of builds; the office that opens them, plans
+//! loads and checks, and saves these.
 #![tactic(auto)]
 
 mod call;
 mod calls;
 mod checking;
 mod edition;
+mod laws;
 mod loading;
 mod office;
 mod opening;
@@ -12,5 +14,6 @@ mod plan;
 
 pub use call::LoadCall;
 pub use edition::{Edition, editions_are_shared};
+pub use laws::{checks_keep_the_history, loads_keep_the_history, openings_begin_a_history};
 pub use office::{Office, Unopened};
-pub use plan::{LoadPlan, Pending};
+pub use plan::{CheckPlan, LoadPlan, Pending};

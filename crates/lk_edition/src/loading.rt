@@ -2,21 +2,22 @@ ghost use Rattle.std.specs.Prelude.{◌≡◌, ◌<◌, Err, IfErr, IfOk, IsOkAn
 ghost use Rattle.std.specs.Arc.{arc_value};
 ghost use Rattle.lk_val.specs.Memory.{IsUnlessMemory, Unless};
 ghost use Rattle.lk_load.specs.Loading.{IsTable, table_loaded};
+ghost use Rattle.lk_ledger.specs.Saving.{load};
 ghost use Rattle.lk_ledger.specs.declared.kept.KeptId.{KeptId};
 ghost use Rattle.lk_state.specs.Limits.{is_over};
 ghost use Rattle.lk_state.specs.States.{AreTables};
 ghost use Rattle.lk_state.specs.Tables.{content_at, def_at, table_named};
-ghost use Rattle.lk_edition.specs.Loads.{into_table, is_loader, is_no_memory, kept_load, load_fault, load_planned, over_batch, planned, state_after, state_with, unless_kept, unless_over};
+ghost use Rattle.lk_edition.specs.Loads.{is_loader, is_no_memory, kept_load, load_fault, load_planned, over_batch, planned, state_after, state_with, unless_kept, unless_over};
 
 use crate::call::LoadCall;
 use crate::edition::Edition;
-use crate::plan::{LoadPlan, Pending};
+use crate::plan::{LoadPlan, Pending, ToSave};
 use lk_command_reply::{LoadFault, load_reply};
 use lk_ledger::{Command, KeptId};
 use lk_load::LoadedBatch;
 use lk_schema::{Users, attribute_of};
-use lk_state::{compacted, is_over, load_into, set_table, share_tables, table_named};
-use lk_table::{BatchFault, TableVersion};
+use lk_state::{compacted, is_over, load_into, set_table, table_named};
+use lk_table::{BatchFault, TableVersion, share_tables};
 use lk_types::Reply;
 use lk_val::{Items, NoMemory, Text};
 use std::alloc::Global;
@@ -189,13 +190,13 @@ fn pending(
     reply: Result<Reply, NoMemory>,
 ) -> Result<Pending, NoMemory>
     ensures { IfOk result (λ pending. IsOkAnd edition (λ next. IsOkAnd command (λ told. IsOkAnd reply (λ answer.
-        pending ≡ record { standing = arc_value next; command = told; reply = answer })))) }
+        pending ≡ record { standing = arc_value next; save = load told; reply = answer })))) }
 {
     let edition = edition?;
     let command = command?;
     Ok(Pending {
         edition,
-        command,
+        save: ToSave::Load(command),
         reply: reply?,
     })
 }
@@ -215,6 +216,8 @@ fn edition_with(
       model = edition.now.model;
       users = edition.now.users;
       state = state_with edition.now.state number version (map arc_value loads);
+      builds = edition.now.builds;
+      keeps = edition.now.keeps;
     }) }
 {
     let version = compacted(alloc, version)?;

@@ -17,16 +17,33 @@ pub enum LoadPlan {
     New(Pending),
 }
 
-/// An accepted load that is still to be committed: the next edition, what the store is told, and the reply.
+/// What a check comes to that is not refused.
+#[derive(Drop)]
+pub enum CheckPlan {
+    /// No datagroup triggers: the reply, and nothing more.
+    Nothing(Reply),
+    /// Builds to be committed.
+    New(Pending),
+}
+
+// What the store is to be told.
+#[derive(Drop)]
+pub(crate) enum ToSave {
+    Load(Command),
+    Check(u64),
+}
+
+/// An accepted load or check that is still to be committed: the next edition, what the store is told, and the reply.
 #[derive(Drop)]
 pub struct Pending {
     pub(crate) edition: Arc<Edition>,
-    pub(crate) command: Command,
+    pub(crate) save: ToSave,
     pub(crate) reply: Reply,
 }
 
 impl Model for Pending {
     ghost use Rattle.std.specs.Arc.{arc_value};
+    ghost use Rattle.lk_edition.specs.Editions.{save_of};
     ghost use Rattle.lk_edition.specs.Plans.{Planned};
 
     ghost Value = { Planned };
@@ -39,7 +56,7 @@ impl Model for Pending {
 
     ghost view = { λ pending. record {
       standing = arc_value pending.edition;
-      command = pending.command;
+      save = save_of pending.save;
       reply = pending.reply;
     } };
 }

@@ -17,16 +17,16 @@ use Rattle.lk_gather.specs.declared.grouping.GatherFault.{GatherFault}
 use Rattle.lk_gather.specs.declared.grouping.GatherFault.TheVariants as fault
 
 -- the rows that a query counts
-abbrev pub counted_rows : Explore → Sources → Bound → List Joined
-counted_rows x s b = passing_rows x b.rows (visible_rows x s b)
+abbrev pub rows_counted : Explore → Sources → Bound → List Joined
+rows_counted x s b = passing_rows x b.rows (visible_rows x s b)
 
 -- what they give to its groups and components
 abbrev pub given_to : Explore → Sources → Bound → List GivenRow
-given_to x s b = given_rows x (dims_of b.picks) (query_components x b) (counted_rows x s b)
+given_to x s b = given_rows x (dims_of b.picks) (query_components x b) (rows_counted x s b)
 
 -- its groups with the cells of its components
 abbrev pub groups_over : Explore → Sources → Bound → List GroupRow
-groups_over x s b = rows_grouped x (dims_of b.picks) (query_components x b) (counted_rows x s b)
+groups_over x s b = rows_grouped x (dims_of b.picks) (query_components x b) (rows_counted x s b)
 
 -- its groups with the parts of its components
 abbrev pub parts_over : Explore → Sources → Bound → List (List Value × List Partial)
@@ -34,7 +34,7 @@ parts_over x s b = rollup_rows (length (dims_of b.picks)) (ops_of x (query_compo
 
 -- the first key with two values that it meets
 abbrev pub conflict_over : Explore → Sources → Bound → Option (ℕ × Value)
-conflict_over x s b = conflict_among x (dims_of b.picks) (query_components x b) (counted_rows x s b)
+conflict_over x s b = conflict_among x (dims_of b.picks) (query_components x b) (rows_counted x s b)
 
 -- the fault is want of memory
 abbrev pub is_no_memory : GatherFault → Bool

@@ -66,8 +66,8 @@ pub fn groups(
     }
 }
 
-/// The groups of a query at a moment over tables, ascending, each with the parts of its components, of which those of
-/// coarser groups can be put together. (lookd)
+/// The groups of a query at a moment over tables, ascending, each with the parts that an aggregate table keeps of its
+/// components. (lookd)
 pub fn kept_parts(
     alloc: Global,
     explore: &Explore,

@@ -1,6 +1,6 @@
-//! Laws of whole sessions: which loads they accept, and what the store then holds.
+//! Laws of whole sessions: which loads and checks they accept, and what the store then holds.
 #![tactic(auto)]
 
 mod laws;
 
-pub use laws::sessions_accept_loads;
+pub use laws::sessions_accept_steps;

@@ -1,1 +1,4 @@
-pub mod OrderLaws
+pub mod ListLaws
+pub mod AnewLaws
+pub mod WantedLaws
+pub mod MakingLaws

@@ -1,2 +1,5 @@
-pub mod Reads
-pub mod Orders
+pub mod Keeps
+pub mod Large
+pub mod Anew
+pub mod Wanted
+pub mod Steps

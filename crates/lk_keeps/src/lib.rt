@@ -1,10 +1,13 @@
-//! The derived tables that a query reads, and the order in which derived tables are made.
+//! What is kept of the builds of datagroups: made whole at an opening, and anew in part by a check.
 #![tactic(auto)]
 
+mod anew;
+mod keeps;
 mod laws;
-mod order;
-mod reading;
+mod making;
+mod numbers;
+mod wanted;
 
-pub use laws::rounds_give_an_order;
-pub use order::order_over;
-pub use reading::tables_read;
+pub use anew::{keep_all, keep_anew};
+pub use keeps::Keeps;
+pub use laws::{all_built_anew_are_whole, what_is_built_anew_is_kept};

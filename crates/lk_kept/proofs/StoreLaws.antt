@@ -1,78 +1,83 @@
--- A store that saved accepted loads opens the last state.
-use Rattle.std.proofs.Common.{◌≡◌, ◌∙◌, ◌++◌, ◌∷◌, ◌<◌, [], ℕ, Bool, true, false, List, Some, length, map, refl, sym, ap, subst, arith}
+-- A store that saved accepted loads and checks opens the last state.
+use Rattle.std.proofs.Common.{◌≡◌, ◌∙◌, ◌++◌, ◌∷◌, ◌+◌, ◌<◌, ◌||◌, [], ℕ, Bool, true, false, List, Some, length, map, refl, sym, ap, subst, arith}
 use Rattle.std.specs.List.{All}
-use Rattle.std.specs.Prelude.{if◌then◌else◌, slice_set, Result, Ok, Err}
+use Rattle.std.specs.Prelude.{ℤ, if◌then◌else◌, nat_lt, slice_set, Result, Ok, Err}
 use Rattle.std.proofs.lemmas.List.{get_or-set_same, length-map, set-set}
-use Rattle.lk_types.specs.declared.model.Model.{Model}
 use Rattle.lk_types.specs.declared.schema.TableDef.{TableDef}
-use Rattle.lk_schema.specs.declared.users.Users.{Users}
 use Rattle.lk_table.specs.Batches.{and_then, batch_of}
 use Rattle.lk_table.specs.BatchTexts.{HasNamedColumns, batch_text}
 use Rattle.lk_table.specs.Contents.{Content, content_of}
 use Rattle.lk_table.specs.Loads.{kept_rows}
 use Rattle.lk_load.specs.Loading.{LoadedTable, table_loaded}
-use Rattle.lk_ledger.specs.Saving.{after_load, after_saves, load, other_chunks}
-use Rattle.lk_ledger.specs.declared.command.Command.{Command}
+use Rattle.lk_ledger.specs.Saving.{Save, after_check, after_load, after_save, after_saves, load, other_chunks}
 use Rattle.lk_ledger.specs.declared.kept.Chunk.{Chunk}
 use Rattle.lk_ledger.specs.declared.kept.Kept.{Kept}
-use Rattle.lk_state.specs.Limits.{is_over}
-use Rattle.lk_state.specs.Openings.{all_appended, appended, appended_to, empty_tables, or_unread, state_over}
+use Rattle.lk_ledger.specs.declared.kept.KeptId.{KeptId}
+use Rattle.lk_state.specs.Limits.{are_large, is_over}
+use Rattle.lk_state.specs.Openings.{all_appended, appended, appended_to, empty_tables, opened, or_unread, state_over}
 use Rattle.lk_state.specs.States.{State}
 use Rattle.lk_state.specs.Tables.{content_at, def_at, no_table, nothing_held, table_named}
 use Rattle.lk_state.specs.declared.fault.OpenFault.{OpenFault}
 use Rattle.lk_state.specs.declared.fault.OpenFault.TheVariants as fault
-use Rattle.lk_edition.specs.Openings.{standing_opened, standing_over}
+use Rattle.lk_edition.specs.Loads.{command_of, kept_id}
 use Rattle.lk_edition.specs.Plans.{Planned}
 use Rattle.lk_edition.specs.Standings.{Standing}
 use Rattle.lk_edition.specs.declared.call.LoadCall.{LoadCall}
-use Rattle.lk_kept.specs.Accepted.{AreAccepted}
+use Rattle.lk_edition.proofs.PlanLaws.{IsBuilt, IsNew, is_built, is_new}
+use Rattle.lk_kept.specs.Accepted.{AreAccepted, LeadsTo, Step, by_check, by_load}
 use Rattle.lk_kept.proofs.ChunkLaws.{all_long, empty_set, number_below, one_behind, others_kept}
-use Rattle.lk_kept.proofs.PlanLaws.{IsNew, is_new}
 use Rattle.lk_kept.proofs.TextLaws.{text_again}
 
--- the state and the edition of what is kept, over tables
+-- the state of what is kept, over tables
 abbrev state_with : Kept → List Content → State
 state_with kept tables = record { number = kept.number; tables = tables; ids = kept.ids }
 
-abbrev standing_with : Model → Users → Kept → List Content → Standing
-standing_with model users kept tables = record { model = model; users = users; state = state_with kept tables }
-
 -- ---- opening
 
--- what is kept opens as that edition
-record Opens (model : Model) (users : Users) (kept : Kept) (tables : List Content) : Type 0 where
-  appends : all_appended model.schema.tables (empty_tables model.schema.tables) kept.chunks ≡ Ok tables
+-- what is kept opens as that state
+record Opens (defs : List TableDef) (kept : Kept) (tables : List Content) : Type 0 where
+  appends : all_appended defs (empty_tables defs) kept.chunks ≡ Ok tables
   within : is_over (state_with kept tables) ≡ false
 
-open_again : (model : Model) (users : Users) (kept : Kept) (tables : List Content) → Opens model users kept tables
-    → standing_opened model users kept [] ≡ Ok (standing_with model users kept tables)
-open_again model users kept tables opens =
-    ap (λ (r : Result (List Content) OpenFault). standing_over model users (and_then r (state_over kept))) opens.appends
-    ∙ ap (λ (b : Bool). standing_over model users (if b then Err fault.Full else Ok (state_with kept tables))) opens.within
+open_again : (defs : List TableDef) (kept : Kept) (tables : List Content) → Opens defs kept tables
+    → opened defs kept [] ≡ Ok (state_with kept tables)
+open_again defs kept tables opens =
+    ap (λ (r : Result (List Content) OpenFault). and_then r (state_over kept)) opens.appends
+    ∙ ap (λ (b : Bool). if b then Err fault.Full else Ok (state_with kept tables)) opens.within
 
-within_by : (model : Model) (users : Users) (kept : Kept) (tables : List Content) (e : Standing) (b : Bool)
-    → is_over (state_with kept tables) ≡ b → standing_over model users (if b then Err fault.Full else Ok (state_with kept tables)) ≡ Ok e
-    → (is_over (state_with kept tables) ≡ false) × (standing_with model users kept tables ≡ e)
-within_by model users kept tables e true is f = cc f
-within_by model users kept tables e false is f = let same : standing_with model users kept tables ≡ e = cc f in (is, same)
+within_by : (kept : Kept) (tables : List Content) (s : State) (b : Bool)
+    → is_over (state_with kept tables) ≡ b → (if b then Err fault.Full else Ok (state_with kept tables)) ≡ Ok s
+    → (is_over (state_with kept tables) ≡ false) × (state_with kept tables ≡ s)
+within_by kept tables s true is f = cc f
+within_by kept tables s false is f = let same : state_with kept tables ≡ s = cc f in (is, same)
 
--- it opens, and the edition is that one
-record HasOpened (model : Model) (users : Users) (kept : Kept) (e : Standing) : Type 0 where
+-- it opens, and the state is that one
+record HasOpened (defs : List TableDef) (kept : Kept) (s : State) : Type 0 where
   tables : List Content
-  opens : Opens model users kept tables
-  is : standing_with model users kept tables ≡ e
+  opens : Opens defs kept tables
+  is : state_with kept tables ≡ s
 
-opened_by : (model : Model) (users : Users) (kept : Kept) (e : Standing) (r : Result (List Content) OpenFault)
-    → all_appended model.schema.tables (empty_tables model.schema.tables) kept.chunks ≡ r
-    → standing_over model users (and_then r (state_over kept)) ≡ Ok e → HasOpened model users kept e
-opened_by model users kept e (Err why) is f = cc f
-opened_by model users kept e (Ok tables) is f =
-    let those = within_by model users kept tables e (is_over (state_with kept tables)) refl f in
+opened_by : (defs : List TableDef) (kept : Kept) (s : State) (r : Result (List Content) OpenFault)
+    → all_appended defs (empty_tables defs) kept.chunks ≡ r → and_then r (state_over kept) ≡ Ok s → HasOpened defs kept s
+opened_by defs kept s (Err why) is f = cc f
+opened_by defs kept s (Ok tables) is f =
+    let those = within_by kept tables s (is_over (state_with kept tables)) refl f in
     record { tables = tables; opens = record { appends = is; within = those.0 }; is = those.1 }
 
-has_opened : (model : Model) (users : Users) (kept : Kept) (e : Standing) → standing_opened model users kept [] ≡ Ok e → HasOpened model users kept e
-has_opened model users kept e f =
-    opened_by model users kept e (all_appended model.schema.tables (empty_tables model.schema.tables) kept.chunks) refl f
+has_opened : (defs : List TableDef) (kept : Kept) (s : State) → opened defs kept [] ≡ Ok s → HasOpened defs kept s
+has_opened defs kept s f = opened_by defs kept s (all_appended defs (empty_tables defs) kept.chunks) refl f
+
+-- ---- limits
+
+-- the same tables and loads are within the limits at another number, where that is
+still_small : (tables : List Content) (ids : List KeptId) (number next : ℕ) → is_over (record { number = number; tables = tables; ids = ids }) ≡ false
+    → nat_lt 9223372036854775807 next ≡ false → is_over (record { number = next; tables = tables; ids = ids }) ≡ false
+still_small tables ids number next small within = neither (are_large tables) (nat_lt 100000 (length ids)) (nat_lt 9223372036854775807 number) (nat_lt 9223372036854775807 next) small within
+  where
+    neither : (a b c d : Bool) → (a || b || c) ≡ false → d ≡ false → (a || b || d) ≡ false
+    neither true b c d small within = cc small
+    neither false true c d small within = cc small
+    neither false false c d small within = within
 
 -- ---- a load
 
@@ -126,39 +131,64 @@ module _ (back : (def : TableDef) (text : List ℕ) (content : Content) → HasN
     saved true loads = saved_replacing loads
     saved false loads = saved_appending loads
 
-  -- ---- the loads
+  -- ---- the steps
 
-  module _ (model : Model) (users : Users) (columns : All HasNamedColumns model.schema.tables) where
-    saved_one : (kept : Kept) (tables : List Content) (call : LoadCall) (p : Planned) → Opens model users kept tables
-        → IsNew (standing_with model users kept tables) call p
-        → HasOpened model users (after_load kept p.command) p.standing
-    saved_one kept tables call p opens is =
-        subst (λ (q : Planned). HasOpened model users (after_load kept q.command) q.standing) (sym is.is)
-        (record {
-          tables = slice_set tables is.number is.table.version;
+  module _ (defs : List TableDef) (columns : All HasNamedColumns defs) where
+    saved_load : (kept : Kept) (e : Standing) (call : LoadCall) (p : Planned) → e.model.schema.tables ≡ defs → HasOpened defs kept e.state
+        → (is : IsNew e call p) → HasOpened defs (after_load kept (command_of e.state call is.table)) p.standing.state
+    saved_load kept e call p same before is =
+        let number = is.number in
+        let version = is.table.version in
+        let loads : table_loaded (def_at defs number) (content_at before.tables number).rows call.body call.replace ≡ Ok is.table =
+        ap (λ (s : State). table_loaded (def_at defs number) (content_at s.tables number).rows call.body call.replace) before.is
+        ∙ ap (λ (ds : List TableDef). table_loaded (def_at ds number) (content_at e.state.tables number).rows call.body call.replace) (sym same) ∙ is.loads in
+        -- the state after the load, by the number of the edition's
+        let loaded_from : State → State =
+        λ s. record { number = e.state.number + 1; tables = slice_set s.tables number version; ids = s.ids ++ kept_id e.state call is.table ∷ [] } in
+        let named : table_named defs call.table ≡ Some number = ap (λ (ds : List TableDef). table_named ds call.table) (sym same) ∙ is.named in
+        record {
+          tables = slice_set before.tables number version;
           opens = record {
-            appends = saved model.schema.tables columns call.table is.number is.named tables kept.chunks opens.appends call.body is.table call.replace is.loads;
-            within = is.within;
+            appends = saved defs columns call.table number named before.tables kept.chunks before.opens.appends call.body is.table call.replace loads;
+            within = ap (λ (s : State). is_over (loaded_from s)) before.is ∙ is.within;
           };
-          is = refl;
-        })
+          is = ap loaded_from before.is ∙ sym (ap (λ (q : Planned). q.standing.state) is.is);
+        }
 
-    saved_all : (calls : List LoadCall) (commands : List Command) (kept : Kept) (e last : Standing) → HasOpened model users kept e
-        → AreAccepted e calls commands last → standing_opened model users (after_saves kept (map load commands)) [] ≡ Ok last
-    saved_all [] [] kept e last opened accepted =
-        open_again model users kept opened.tables opened.opens ∙ ap Ok (opened.is ∙ sym accepted)
-    saved_all [] (command ∷ commands) kept e last opened accepted = absurd accepted
-    saved_all (call ∷ calls) [] kept e last opened accepted = absurd accepted
-    saved_all (call ∷ calls) (command ∷ commands) kept e last opened accepted =
-        let next : HasOpened model users (after_load kept accepted.0.command) accepted.0.standing =
-        saved_one kept opened.tables call accepted.0 opened.opens
-        (subst (λ (s : Standing). IsNew s call accepted.0) (sym opened.is) (is_new e call accepted.0 accepted.1)) in
-        saved_all calls commands (after_load kept command) accepted.0.standing last
-        (subst (λ (c : Command). HasOpened model users (after_load kept c) accepted.0.standing) (sym accepted.2) next)
-        accepted.3
+    saved_check : (kept : Kept) (e : Standing) (p : Planned) → HasOpened defs kept e.state → (now : ℤ) → IsBuilt e now p
+        → HasOpened defs (after_check kept (e.state.number + 1)) p.standing.state
+    saved_check kept e p before now is = record {
+      tables = before.tables;
+      opens = record { appends = before.opens.appends; within = still_small before.tables kept.ids kept.number (e.state.number + 1) before.opens.within is.within };
+      is = ap (λ (s : State). record { number = e.state.number + 1; tables = s.tables; ids = s.ids }) before.is ∙ sym (ap (λ (q : Planned). q.standing.state) is.is);
+    }
 
-    pub stores_hold : (kept : Kept) (e : Standing) (calls : List LoadCall) (commands : List Command) (last : Standing)
-        → standing_opened model users kept [] ≡ Ok e → AreAccepted e calls commands last
-        → standing_opened model users (after_saves kept (map load commands)) [] ≡ Ok last
-    stores_hold kept e calls commands last opened accepted =
-        saved_all calls commands kept e last (has_opened model users kept e opened) accepted
+    saved_step : (kept : Kept) (e : Standing) (step : Step) (save : Save) (p : Planned) → e.model.schema.tables ≡ defs → HasOpened defs kept e.state
+        → LeadsTo e step p → save ≡ p.save → HasOpened defs (after_save kept save) p.standing.state × (p.standing.model.schema.tables ≡ defs)
+    saved_step kept e (by_load call) save p same before leads told =
+        let is = is_new e call p leads in
+        let save_is : load (command_of e.state call is.table) ≡ save = sym (told ∙ ap (λ (q : Planned). q.save) is.is) in (
+          subst (λ s. HasOpened defs (after_save kept s) p.standing.state) save_is (saved_load kept e call p same before is),
+          ap (λ (q : Planned). q.standing.model.schema.tables) is.is ∙ same,
+        )
+    saved_step kept e (by_check user now) save p same before leads told =
+        let is = is_built e user now p leads in (
+          subst (λ s. HasOpened defs (after_save kept s) p.standing.state) (sym (told ∙ ap (λ (q : Planned). q.save) is.is)) (saved_check kept e p before now is),
+          ap (λ (q : Planned). q.standing.model.schema.tables) is.is ∙ same,
+        )
+
+    saved_all : (steps : List Step) (saves : List Save) (kept : Kept) (e last : Standing) → e.model.schema.tables ≡ defs → HasOpened defs kept e.state
+        → AreAccepted e steps saves last → opened defs (after_saves kept saves) [] ≡ Ok last.state
+    saved_all [] [] kept e last same before accepted =
+        open_again defs kept before.tables before.opens ∙ ap Ok (before.is ∙ sym (ap (λ (s : Standing). s.state) accepted))
+    saved_all [] (save ∷ saves) kept e last same before accepted = absurd accepted
+    saved_all (step ∷ steps) [] kept e last same before accepted = absurd accepted
+    saved_all (step ∷ steps) (save ∷ saves) kept e last same before accepted =
+        let next = saved_step kept e step save accepted.0 same before accepted.1 accepted.2 in
+        saved_all steps saves (after_save kept save) accepted.0.standing last next.1 next.0 accepted.3
+
+  pub stores_hold : (kept : Kept) (e : Standing) (steps : List Step) (saves : List Save) (last : Standing)
+      → All HasNamedColumns e.model.schema.tables → opened e.model.schema.tables kept [] ≡ Ok e.state → AreAccepted e steps saves last
+      → opened e.model.schema.tables (after_saves kept saves) [] ≡ Ok last.state
+  stores_hold kept e steps saves last columns is accepted =
+      saved_all e.model.schema.tables columns steps saves kept e last refl (has_opened e.model.schema.tables kept e.state is) accepted

@@ -17,11 +17,16 @@ use Rattle.lk_seed.specs.Seeds.{seeds_of}
 use Rattle.lk_ask.specs.Asks.{IsAsked}
 use Rattle.lk_ask.specs.declared.fault.AskFault.{AskFault}
 use Rattle.lk_ask.specs.declared.told.Told.{Told}
-use Rattle.lk_state.specs.Openings.{Seed}
-use Rattle.lk_state.specs.States.{sources_at}
+use Rattle.lk_table.specs.Contents.{rows_of_each}
+use Rattle.lk_rollup.specs.declared.fault.BuildFault.{BuildFault}
+use Rattle.lk_rollup.specs.declared.fault.BuildFault.TheVariants as build
+use Rattle.lk_keeps.specs.Anew.{all_kept}
+use Rattle.lk_keeps.specs.Keeps.{Keeps}
+use Rattle.lk_state.specs.Openings.{Seed, opened}
+use Rattle.lk_state.specs.States.{State, sources_at}
 use Rattle.lk_state.specs.declared.fault.OpenFault.{OpenFault}
 use Rattle.lk_edition.specs.Offices.{IsOpening}
-use Rattle.lk_edition.specs.Openings.{standing_opened}
+use Rattle.lk_edition.specs.Openings.{standing_built, standing_opened, standing_over}
 use Rattle.lk_edition.specs.Standings.{Standing}
 use Rattle.lk_session.specs.Asking as asking
 use Rattle.lk_session.specs.Asking.{replied}
@@ -32,8 +37,6 @@ use Rattle.lk_serve.specs.Outcomes.{IsReply, IsReplyTo}
 use Rattle.lk_serve.specs.Queries.{IsAnswered, IsQueried, OverBody, OverEdition, OverOpened, TellsAnswer, small_input}
 use Rattle.lk_serve.specs.Replies.{usage_reply}
 use Rattle.lk_serve.specs.Words.{Asked, asked_by, unknown, check, query, script}
-use Rattle.lk_serve.specs.declared.opening.Service.{Service}
-use Rattle.lk_serve.specs.declared.opening.Service.TheVariants.{Queries}
 use Rattle.lk_serve.specs.declared.replies.Reply.{Reply}
 use Rattle.lk_one_reply.specs.Told.{IsTold}
 
@@ -80,45 +83,88 @@ module _ (one_load : OneLoad) (one_told : OneTold) where
   one_opened (Err fault) (Err a) (Ok e) h k = absurd k
   one_opened (Err fault) (Err a) (Err b) h k = ap Err (one_line (open_line fault) a b h k)
 
-  module _ (begins : Kept → Type 0) (one_kept : (a b : Kept) → begins a → begins b → a ≡ b) where
+  module _ (begins : Kept → Type 0) (now : ℤ) (one_kept : (a b : Kept) → begins a → begins b → a ≡ b) where
     over_seeds : (loaded : Loaded) (found : List seeds.Seed) (r s : Result Standing Reply)
-        → OverSeeds loaded begins found r → OverSeeds loaded begins found s → r ≡ s
+        → OverSeeds loaded begins now found r → OverSeeds loaded begins now found s → r ≡ s
     over_seeds loaded found r s h k =
         let same : h.opened ≡ k.opened =
-        sym h.is_opening.is ∙ ap (λ (held : Kept). standing_opened loaded.model loaded.users held (numbered 0 found))
+        sym h.is_opening.is ∙ ap (λ (held : Kept). standing_opened loaded.model loaded.users held (numbered 0 found) now)
         (one_kept h.is_opening.kept k.is_opening.kept h.is_opening.handed k.is_opening.handed) ∙ k.is_opening.is in
         one_opened k.opened r s (subst (λ opened. OpenedAs opened r) same h.told) k.told
 
     over_files : (loaded : Loaded) (found : Result (List seeds.Seed) ProjectFault) (r s : Result Standing Reply)
-        → OverFiles loaded begins found r → OverFiles loaded begins found s → r ≡ s
+        → OverFiles loaded begins now found r → OverFiles loaded begins now found s → r ≡ s
     over_files loaded (Ok found) r s h k = over_seeds loaded found r s h k
     over_files loaded (Err (project.Model line)) r s h k = h ∙ sym k
     over_files loaded (Err project.Failed) r s h k = absurd h
     over_files loaded (Err project.NoMemory) r s h k = absurd h
 
-    over_loaded : (service : Service) (files : List File) (l : Result Loaded ProjectFault) (r s : Result Standing Reply)
-        → OverLoaded service files begins l r → OverLoaded service files begins l s → r ≡ s
-    over_loaded service files (Ok loaded) r s (inl h) (inl k) = over_files loaded (seeds_of loaded.model.schema.tables files) r s h.1 k.1
-    over_loaded service files (Ok loaded) r s (inl h) (inr k) = absurd (k.0 h.0)
-    over_loaded service files (Ok loaded) r s (inr h) (inl k) = absurd (h.0 k.0)
-    over_loaded service files (Ok loaded) r s (inr h) (inr k) = h.1 ∙ sym k.1
-    over_loaded service files (Err (project.Model line)) r s h k = h ∙ sym k
-    over_loaded service files (Err project.Failed) r s h k = absurd h
-    over_loaded service files (Err project.NoMemory) r s h k = absurd h
+    over_loaded : (files : List File) (l : Result Loaded ProjectFault) (r s : Result Standing Reply)
+        → OverLoaded files begins now l r → OverLoaded files begins now l s → r ≡ s
+    over_loaded files (Ok loaded) r s (inl h) (inl k) = over_files loaded (seeds_of loaded.model.schema.tables files) r s h.1 k.1
+    over_loaded files (Ok loaded) r s (inl h) (inr k) = absurd (k.0 h.0)
+    over_loaded files (Ok loaded) r s (inr h) (inl k) = absurd (h.0 k.0)
+    over_loaded files (Ok loaded) r s (inr h) (inr k) = h.1 ∙ sym k.1
+    over_loaded files (Err (project.Model line)) r s h k = h ∙ sym k
+    over_loaded files (Err project.Failed) r s h k = absurd h
+    over_loaded files (Err project.NoMemory) r s h k = absurd h
 
-    loaded_told : (service : Service) (files : List File) (l : Result Loaded ProjectFault) (r : Result Standing Reply)
-        → OverLoaded service files begins l r → IsTold l
-    loaded_told service files (Ok loaded) r h = tt
-    loaded_told service files (Err (project.Model line)) r h = tt
-    loaded_told service files (Err project.Failed) r h = h
-    loaded_told service files (Err project.NoMemory) r h = h
+    loaded_told : (files : List File) (l : Result Loaded ProjectFault) (r : Result Standing Reply)
+        → OverLoaded files begins now l r → IsTold l
+    loaded_told files (Ok loaded) r h = tt
+    loaded_told files (Err (project.Model line)) r h = tt
+    loaded_told files (Err project.Failed) r h = h
+    loaded_told files (Err project.NoMemory) r h = h
 
-    pub one_opening : (service : Service) (files : List File) (r s : Result Standing Reply)
-        → IsOpened service files begins r → IsOpened service files begins s → r ≡ s
-    one_opening service files r s h k =
+    pub one_opening : (files : List File) (r s : Result Standing Reply)
+        → IsOpened files begins now r → IsOpened files begins now s → r ≡ s
+    one_opening files r s h k =
         let same : h.loaded ≡ k.loaded =
-        one_load files h.loaded k.loaded (loaded_told service files h.loaded r h.over) (loaded_told service files k.loaded s k.over) h.is_load k.is_load in
-        over_loaded service files k.loaded r s (subst (λ l. OverLoaded service files begins l r) same h.over) k.over
+        one_load files h.loaded k.loaded (loaded_told files h.loaded r h.over) (loaded_told files k.loaded s k.over) h.is_load k.is_load in
+        over_loaded files k.loaded r s (subst (λ l. OverLoaded files begins now l r) same h.over) k.over
+
+  -- ---- what does not open, opens at no moment
+
+  module _ (begins : Kept → Type 0) (now later : ℤ) where
+    kept_then : (model : Model) (users : Users) (state : State) (keeps : Result Keeps BuildFault) (fault : OpenFault)
+        → standing_built model users state now keeps ≡ Err fault → standing_built model users state later keeps ≡ Err fault
+    kept_then model users state (Err (build.G2 name)) fault is = is
+    kept_then model users state (Err build.NoMemory) fault is = is
+    kept_then model users state (Ok keeps) fault is = absurd (cc is)
+
+    state_then : (model : Model) (users : Users) (state : Result State OpenFault) (fault : OpenFault)
+        → standing_over model users now state ≡ Err fault → standing_over model users later state ≡ Err fault
+    state_then model users (Err why) fault is = is
+    state_then model users (Ok state) fault is = kept_then model users state (all_kept model (rows_of_each state.tables)) fault is
+
+    opening_then : (model : Model) (users : Users) (given : List Seed) (fault : OpenFault)
+        → IsOpening model users begins given now (Err fault) → IsOpening model users begins given later (Err fault)
+    opening_then model users given fault h =
+        record { kept = h.kept; handed = h.handed; is = state_then model users (opened model.schema.tables h.kept given) fault h.is }
+
+    seeds_then : (loaded : Loaded) (found : List seeds.Seed) (line : Reply) (o : Result Standing OpenFault)
+        → IsOpening loaded.model loaded.users begins (numbered 0 found) now o → OpenedAs o (Err line) → OverSeeds loaded begins later found (Err line)
+    seeds_then loaded found line (Ok e) h told = absurd (cc told)
+    seeds_then loaded found line (Err fault) h told =
+        record { opened = Err fault; is_opening = opening_then loaded.model loaded.users (numbered 0 found) fault h; told = told }
+
+    files_then : (loaded : Loaded) (found : Result (List seeds.Seed) ProjectFault) (line : Reply)
+        → OverFiles loaded begins now found (Err line) → OverFiles loaded begins later found (Err line)
+    files_then loaded (Ok found) line h = seeds_then loaded found line h.opened h.is_opening h.told
+    files_then loaded (Err (project.Model fault)) line h = h
+    files_then loaded (Err project.Failed) line h = h
+    files_then loaded (Err project.NoMemory) line h = h
+
+    loaded_then : (files : List File) (l : Result Loaded ProjectFault) (line : Reply)
+        → OverLoaded files begins now l (Err line) → OverLoaded files begins later l (Err line)
+    loaded_then files (Ok loaded) line (inl h) = inl (h.0, files_then loaded (seeds_of loaded.model.schema.tables files) line h.1)
+    loaded_then files (Ok loaded) line (inr h) = inr h
+    loaded_then files (Err (project.Model fault)) line h = h
+    loaded_then files (Err project.Failed) line h = h
+    loaded_then files (Err project.NoMemory) line h = h
+
+    line_then : (files : List File) (line : Reply) → IsOpened files begins now (Err line) → IsOpened files begins later (Err line)
+    line_then files line h = record { loaded = h.loaded; is_load = h.is_load; over = loaded_then files h.loaded line h.over }
 
   -- ---- queries
 
@@ -138,23 +184,25 @@ module _ (one_load : OneLoad) (one_told : OneTold) where
       one_answer k.told a b (subst (λ r. TellsAnswer r a) same h.tells) k.tells
 
   over_body : (e : Standing) (user explore : List ℕ) (now : ℤ) (body : Option (List ℕ)) (a b : Reply)
-      → OverBody e user explore (Some now) body a → OverBody e user explore (Some now) body b → a ≡ b
+      → OverBody e user explore now body a → OverBody e user explore now body b → a ≡ b
   over_body e user explore now None a b h k = h ∙ sym k
   over_body e user explore now (Some body) a b h k =
-      one_answered e user explore now body a b
-      (subst (λ moment. IsAnswered e user explore moment body a) h.told h.answered)
-      (subst (λ moment. IsAnswered e user explore moment body b) k.told k.answered)
+      one_answered e user explore now body a b h.1 k.1
 
   over_opened : (user explore input : List ℕ) (now : ℤ) (opened : Result Standing Reply) (a b : Reply)
-      → OverOpened user explore (Some input) (Some now) opened a → OverOpened user explore (Some input) (Some now) opened b → a ≡ b
+      → OverOpened user explore (Some input) now opened a → OverOpened user explore (Some input) now opened b → a ≡ b
   over_opened user explore input now (Ok e) a b h k = over_body e user explore now (small_input input) a b h.is k.is
   over_opened user explore input now (Err line) a b h k = h ∙ sym k
 
   one_queried : (files : List File) (user explore input : List ℕ) (now : ℤ) (a b : Reply)
       → IsQueried files user explore (Some input) (Some now) a → IsQueried files user explore (Some input) (Some now) b → a ≡ b
   one_queried files user explore input now a b h k =
-      let same : h.opened ≡ k.opened = one_opening IsEmpty (λ a b h k. h ∙ sym k) Queries files h.opened k.opened h.is_opened k.is_opened in
-      over_opened user explore input now k.opened a b (subst (λ r. OverOpened user explore (Some input) (Some now) r a) same h.told) k.told
+      let h_opened = subst (λ moment. IsOpened files IsEmpty moment h.opened) h.is_now h.is_opened in
+      let k_opened = subst (λ moment. IsOpened files IsEmpty moment k.opened) k.is_now k.is_opened in
+      let same : h.opened ≡ k.opened = one_opening IsEmpty now (λ a b h k. h ∙ sym k) files h.opened k.opened h_opened k_opened in
+      over_opened user explore input now k.opened a b
+      (subst (λ r. OverOpened user explore (Some input) now r a) same (subst (λ moment. OverOpened user explore (Some input) moment h.opened a) h.is_now h.told))
+      (subst (λ moment. OverOpened user explore (Some input) moment k.opened b) k.is_now k.told)
 
   -- ---- words
 
@@ -179,8 +227,9 @@ module _ (one_load : OneLoad) (one_told : OneTold) where
   usage_told words files input now a is h = subst (λ asked. IsReplyTo asked files input now a) is h
 
   -- a folder whose project does not open has its line, whatever is told of the input and the clock
-  pub line_told : (files : List File) (user explore : List ℕ) (input : Option (List ℕ)) (now : Option ℤ) (line a : Reply)
-      → IsOpened Queries files IsEmpty (Err line) → IsQueried files user explore input now a → a ≡ line
-  line_told files user explore input now line a opened h =
-      let same : h.opened ≡ Err line = one_opening IsEmpty (λ a b h k. h ∙ sym k) Queries files h.opened (Err line) h.is_opened opened in
-      subst (λ r. OverOpened user explore input now r a) same h.told
+  pub line_told : (files : List File) (user explore : List ℕ) (input : Option (List ℕ)) (now : Option ℤ) (moment : ℤ) (line a : Reply)
+      → IsOpened files IsEmpty moment (Err line) → IsQueried files user explore input now a → a ≡ line
+  line_told files user explore input now moment line a opened h =
+      let same : h.opened ≡ Err line =
+      one_opening IsEmpty h.moment (λ a b h k. h ∙ sym k) files h.opened (Err line) h.is_opened (line_then IsEmpty moment h.moment files line opened) in
+      subst (λ r. OverOpened user explore input h.moment r a) same h.told

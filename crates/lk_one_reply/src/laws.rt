@@ -13,7 +13,6 @@ ghost use Rattle.lk_serve.specs.Outcomes.{IsReply};
 ghost use Rattle.lk_serve.specs.Queries.{IsQueried};
 ghost use Rattle.lk_serve.specs.Replies.{usage_reply};
 ghost use Rattle.lk_serve.specs.Words.{asked_by, unknown};
-ghost use Rattle.lk_serve.specs.declared.opening.Service.TheVariants.{Queries};
 ghost use Rattle.lk_serve.specs.declared.replies.Reply.{Reply};
 ghost use Rattle.lk_one_reply.specs.Told.{IsTold};
 
@@ -30,7 +29,7 @@ pub fn objects_say_one_thing()
 
 /// Where the files, the input and the next moment are told, there is one reply to words that ask for one, and what the files are loaded as, want of memory
 /// and a failure aside, is one. Wrong words have the usage line whatever is told, and a query over a folder whose project does
-/// not open has the folder's line whatever is told of the input and the clock. A law: it computes nothing.
+/// not open at some moment has the folder's line whatever is told of the input and the clock. A law: it computes nothing.
 pub fn words_have_one_reply()
     ensures loads { (files : List File) (r s : Result Loaded ProjectFault) → IsTold r → IsTold s → IsLoadOf files r → IsLoadOf files s
         → r ≡ s }
@@ -38,8 +37,8 @@ pub fn words_have_one_reply()
         → IsReply words (Some files) (Some input) (Some now) a → IsReply words (Some files) (Some input) (Some now) b → a ≡ b }
     ensures usage { (words : List (List ℕ)) (files : Option (List File)) (input : Option (List ℕ)) (now : Option ℤ) (a : Reply)
         → asked_by words ≡ unknown → IsReply words files input now a → a ≡ usage_reply }
-    ensures closed { (files : List File) (user explore : List ℕ) (input : Option (List ℕ)) (now : Option ℤ) (line a : Reply)
-        → IsOpened Queries files IsEmpty (Err line) → IsQueried files user explore input now a → a ≡ line }
+    ensures closed { (files : List File) (user explore : List ℕ) (input : Option (List ℕ)) (now : Option ℤ) (moment : ℤ) (line a : Reply)
+        → IsOpened files IsEmpty moment (Err line) → IsQueried files user explore input now a → a ≡ line }
 {
     objects_say_one_thing();
     bodies_are_told_one_thing();

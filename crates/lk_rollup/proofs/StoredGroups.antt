@@ -19,7 +19,7 @@ use Rattle.lk_derived.proofs.ReadRows.{joined_whole}
 use Rattle.lk_filter.specs.PlacedModel.{placed_explore}
 use Rattle.lk_placed_laws.proofs.FixedLaws.{given_are}
 use Rattle.lk_placed_laws.proofs.PlacedLaws.{ops_are, query_components_are, visible_are}
-use Rattle.lk_gather.specs.Groups.{conflict_over, counted_rows, given_to, groups_over, parts_over}
+use Rattle.lk_gather.specs.Groups.{conflict_over, rows_counted, given_to, groups_over, parts_over}
 
 -- ---- at each moment
 
@@ -28,13 +28,13 @@ module _ (now : ℤ) (x : Explore) (s : Sources) (b : Bound) (typed : list_all (
   abbrev y : Explore
   y = placed_explore now x
 
-  counted_at : counted_rows y s b ≡ counted_rows x s b
+  counted_at : rows_counted y s b ≡ rows_counted x s b
   counted_at = ap (passing_rows x b.rows) (visible_are now x s b)
 
   given_at : given_to y s b ≡ given_to x s b
   given_at =
       (λ i. given_rows y (dims_of b.picks) (query_components_are now x b i) (counted_at i))
-      ∙ given_are now x typed (dims_of b.picks) (query_components x b) (counted_rows x s b) fixed
+      ∙ given_are now x typed (dims_of b.picks) (query_components x b) (rows_counted x s b) fixed
 
   ops_at : ops_of y (query_components y b) ≡ ops_of x (query_components x b)
   ops_at = ap (ops_of y) (query_components_are now x b) ∙ ops_are now x (query_components x b)
@@ -54,7 +54,7 @@ module _ (m : Model) (s : Sources) (b : Bound) (h : HasRowsFor m s b) where
   abbrev z : Explore
   z = explore_at m b.explore
 
-  counted_whole : counted_rows z s b ≡ counted_rows z (whole m s) b
+  counted_whole : rows_counted z s b ≡ rows_counted z (whole m s) b
   counted_whole = ap (λ rows. passing_rows z b.rows (filter (passes_all z b.access) rows)) (joined_whole m s b h)
 
   pub parts_whole : parts_over z s b ≡ parts_over z (whole m s) b
@@ -73,7 +73,7 @@ unfiltered x [] = refl
 unfiltered x (row ∷ rows) = ap (λ all. row ∷ all) (unfiltered x rows)
 
 -- a query without access filters counts the passing ones of the rows that it joins
-pub counted_unfiltered : (x : Explore) (s : Sources) (b : Bound) → b.access ≡ [] → counted_rows x s b ≡ passing_rows x b.rows (joined_rows x s b.joins)
+pub counted_unfiltered : (x : Explore) (s : Sources) (b : Bound) → b.access ≡ [] → rows_counted x s b ≡ passing_rows x b.rows (joined_rows x s b.joins)
 counted_unfiltered x s b none = ap (passing_rows x b.rows) (ap (λ access. filter (passes_all x access) (joined_rows x s b.joins)) none ∙ unfiltered x (joined_rows x s b.joins))
 
 pub conflict_unfiltered : (x : Explore) (s : Sources) (b : Bound) → b.access ≡ []

@@ -10,3 +10,4 @@ mod values;
 pub use building::{RollupRows, build};
 pub use derivation::derive;
 pub use fault::BuildFault;
+pub use stored::{derived_query, rollup_query};

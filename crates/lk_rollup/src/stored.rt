@@ -25,12 +25,7 @@ use std::alloc::Global;
 const ANY_MOMENT: i64 = 0;
 
 /// The query whose groups an aggregate table of the explore of a number keeps.
-pub(crate) fn rollup_query(
-    alloc: Global,
-    x: &Explore,
-    number: u32,
-    r: &Rollup,
-) -> Result<Bound, NoMemory>
+pub fn rollup_query(alloc: Global, x: &Explore, number: u32, r: &Rollup) -> Result<Bound, NoMemory>
     ensures { IfOk result (λ query. query ≡ rollup_query x.now number r.now) }
 {
     let picks = rollup_picks(alloc, r)?;
@@ -65,7 +60,7 @@ fn add_measures(picks: &mut Items<Pick>, measures: &[u32]) -> Result<(), NoMemor
 }
 
 /// The query whose lines are the rows of a derived table.
-pub(crate) fn derived_query(alloc: Global, x: &Explore, d: &Derived) -> Result<Bound, NoMemory>
+pub fn derived_query(alloc: Global, x: &Explore, d: &Derived) -> Result<Bound, NoMemory>
     requires typed { are_filters_of x.now x.now.always ≡ true }
     requires fixed { are_fixed x.now.always ≡ true }
     ensures { IfOk result (λ query. query ≡ derived_query x.now d.now) }

@@ -1,14 +1,16 @@
 -- What is answered at a moment is answered at the next one of the clock, as far as it tells.
-use Rattle.std.proofs.Common.{◌≡◌, List, ℕ, Option, Some, None, subst}
-use Rattle.std.specs.Prelude.{ℤ, IfSome, Ok, slice_get}
+use Rattle.std.proofs.Common.{◌≡◌, List, ℕ, Option, Some, None, refl}
+use Rattle.std.specs.Prelude.{ℤ, IfSome, Ok, Err, slice_get}
 use Rattle.lk_io.specs.declared.files.File.{File}
-use Rattle.lk_val.specs.Years.{IsMomentInYears}
+use Rattle.lk_ledger.specs.declared.kept.Kept.{Kept}
 use Rattle.lk_edition.specs.Standings.{Standing}
 use Rattle.lk_serve.specs.Keeping.{IsEmpty}
-use Rattle.lk_serve.specs.Opened.{IsOpened}
-use Rattle.lk_serve.specs.Queries.{IsAnswered, IsQueried, OverBody, OverEdition, small_input}
+use Rattle.lk_serve.specs.Opened.{IsOpened, IsOpenedNext}
+use Rattle.lk_serve.specs.Openings.{IsWhy}
+use Rattle.lk_serve.specs.Queries.{IsQueried, OverEdition}
 use Rattle.lk_serve.specs.Runs.{next_moment}
-use Rattle.lk_serve.specs.declared.opening.Service.TheVariants.{Queries}
+use Rattle.lk_serve.specs.declared.opening.Why.{Why}
+use Rattle.lk_serve.specs.declared.opening.Why.TheVariants as why
 use Rattle.lk_serve.specs.declared.replies.Reply.{Reply}
 
 some_is : (told : Option ℤ) (now : ℤ) → told ≡ Some now → IfSome told (λ moment. now ≡ moment)
@@ -19,27 +21,41 @@ pub next_is : (moments : Option (List ℤ)) (now : ℤ) → IfSome moments (λ t
 next_is None now first = tt
 next_is (Some told) now first = some_is (slice_get told 0) now first
 
-module _ (e : Standing) (user explore : List ℕ) (now : ℤ) (next : Option ℤ) (reply : Reply) (is : IfSome next (λ moment. now ≡ moment)) where
-  body_then : (body : Option (List ℕ)) → OverBody e user explore (Some now) body reply → OverBody e user explore next body reply
-  body_then None h = h
-  body_then (Some body) h = record {
-    moment = now;
-    years = subst IsMomentInYears h.told h.years;
-    told = is;
-    answered = subst (λ moment. IsAnswered e user explore moment body reply) h.told h.answered;
-  }
+-- what opens at the moment that the clock gave, over an edition
+pub queried_then : (e : Standing) (user explore : List ℕ) (now : ℤ) (next : Option ℤ) (reply : Reply) → IfSome next (λ moment. now ≡ moment)
+    → (files : Option (List File)) (input : Option (List ℕ)) → IfSome files (λ told. IsOpened told IsEmpty now (Ok e))
+    → OverEdition e user explore input now reply → IfSome files (λ told. IsQueried told user explore input next reply)
+queried_then e user explore now next reply is None input opened h = tt
+queried_then e user explore now next reply is (Some told) input opened h =
+    record { moment = now; is_now = is; opened = Ok e; is_opened = opened; told = h }
 
-  input_then : (input : Option (List ℕ)) → IfSome input (λ left. OverBody e user explore (Some now) (small_input left) reply)
-      → IfSome input (λ left. OverBody e user explore next (small_input left) reply)
-  input_then None h = tt
-  input_then (Some left) h = body_then (small_input left) h
+-- the line on a project that does not open
+line_then : (user explore : List ℕ) (next : Option ℤ) (input : Option (List ℕ)) (files : List File) (reply : Reply)
+    → IsOpenedNext files IsEmpty next (Err reply) → IsQueried files user explore input next reply
+line_then user explore next input files reply h =
+    record { moment = h.moment; is_now = h.is_next; opened = Err reply; is_opened = h.is; told = refl }
 
-  edition_then : (input : Option (List ℕ)) → OverEdition e user explore input (Some now) reply → OverEdition e user explore input next reply
-  edition_then input h = record { read = h.read; is = input_then input h.is }
+pub unqueried_then : (user explore : List ℕ) (next : Option ℤ) (input : Option (List ℕ)) (files : Option (List File)) (reply : Reply)
+    → IfSome files (λ told. IsWhy (λ line. IsOpenedNext told IsEmpty next (Err line)) (why.Told reply))
+    → IfSome files (λ told. IsQueried told user explore input next reply)
+unqueried_then user explore next input None reply h = tt
+unqueried_then user explore next input (Some told) reply h = line_then user explore next input told reply h
 
-  -- over an edition at a moment that the clock gave
-  pub queried_then : (files : Option (List File)) (input : Option (List ℕ))
-      → IfSome files (λ told. IsOpened Queries told IsEmpty (Ok e))
-      → OverEdition e user explore input (Some now) reply → IfSome files (λ told. IsQueried told user explore input next reply)
-  queried_then None input opened h = tt
-  queried_then (Some told) input opened h = record { opened = Ok e; is_opened = opened; told = edition_then input h }
+-- what opens at the moment that a clock gave opens at its next, as far as it tells
+pub opened_next : (begins : Kept → Type 0) (now : ℤ) (next : Option ℤ) (e : Standing) → IfSome next (λ moment. now ≡ moment)
+    → (files : Option (List File)) → IfSome files (λ told. IsOpened told begins now (Ok e)) → IfSome files (λ told. IsOpenedNext told begins next (Ok e))
+opened_next begins now next e is None h = tt
+opened_next begins now next e is (Some told) h = record { moment = now; is_next = is; is = h }
+
+why_next : (begins : Kept → Type 0) (now : ℤ) (next : Option ℤ) (reason : Why) (files : List File) → IfSome next (λ moment. now ≡ moment)
+    → IsWhy (λ reply. IsOpened files begins now (Err reply)) reason → IsWhy (λ reply. IsOpenedNext files begins next (Err reply)) reason
+why_next begins now next (why.Told reply) files is h = record { moment = now; is_next = is; is = h }
+why_next begins now next why.Store files is h = tt
+why_next begins now next why.Files files is h = tt
+why_next begins now next why.Memory files is h = tt
+
+pub unopened_next : (begins : Kept → Type 0) (now : ℤ) (next : Option ℤ) (reason : Why) → IfSome next (λ moment. now ≡ moment)
+    → (files : Option (List File)) → IfSome files (λ told. IsWhy (λ reply. IsOpened told begins now (Err reply)) reason)
+    → IfSome files (λ told. IsWhy (λ reply. IsOpenedNext told begins next (Err reply)) reason)
+unopened_next begins now next reason is None h = tt
+unopened_next begins now next reason is (Some told) h = why_next begins now next reason told is h

@@ -1,5 +1,5 @@
 -- What a folder's project opens over what a store handed over: the edition of its opening, or the line on why there is none. (lookd)
-use Rattle.std.specs.Prelude.{◌≡◌, ◌⊎◌, ◌+◌, ℕ, List, [], ◌∷◌, codes, Option, Some, None, Result, Ok, Err}
+use Rattle.std.specs.Prelude.{◌≡◌, ◌⊎◌, ◌+◌, ℕ, ℤ, List, [], ◌∷◌, codes, Option, Some, None, IfSome, Result, Ok, Err}
 use Rattle.lk_val.specs.declared.fault.FaultLine.{FaultLine}
 use Rattle.lk_val.specs.declared.fault.ModelFault.{ModelFault}
 use Rattle.lk_val.specs.declared.fault.ModelFault.TheVariants as model
@@ -21,10 +21,8 @@ use Rattle.lk_state.specs.Openings.{Seed}
 use Rattle.lk_state.specs.declared.fault.OpenFault.{OpenFault}
 use Rattle.lk_state.specs.declared.fault.OpenFault.TheVariants as opening
 use Rattle.lk_edition.specs.Offices.{IsOpening}
-use Rattle.lk_edition.specs.Standings.{IsAnswerable, IsServed, Standing}
+use Rattle.lk_edition.specs.Standings.{IsAnswerable, Standing}
 use Rattle.lk_serve.specs.Replies.{fault_reply, unanswered_reply}
-use Rattle.lk_serve.specs.declared.opening.Service.{Service}
-use Rattle.lk_serve.specs.declared.opening.Service.TheVariants as service
 use Rattle.lk_serve.specs.declared.replies.Reply.{Reply}
 
 -- ---- the seeds of an opening
@@ -57,6 +55,7 @@ abbrev pub open_fault : OpenFault → ModelFault
 open_fault (opening.Unread table fault) = unread_fault table fault
 open_fault (opening.Seed table fault) = seed_fault (data_path table) fault
 open_fault opening.Full = model.Fault (file_line (codes "L6") [] 0 [])
+open_fault (opening.Large name) = model.Fault (file_line (codes "G2") [] 0 name)
 open_fault opening.Store = model.NoMemory
 open_fault opening.NoMemory = model.NoMemory
 
@@ -79,34 +78,35 @@ OpenedAs (Ok e) result = result ≡ Ok e
 OpenedAs (Err fault) (Ok e) = ⊥
 OpenedAs (Err fault) (Err reply) = Opens (open_line fault) reply
 
--- over the batches of the data files, and what the store handed over
-pub record OverSeeds (loaded : Loaded) (begins : Kept → Type 0) (seeds : List seeds.Seed) (result : Result Standing Reply) : Type 0 where
+-- over the batches of the data files, and what the store handed over, at a moment
+pub record OverSeeds (loaded : Loaded) (begins : Kept → Type 0) (now : ℤ) (seeds : List seeds.Seed) (result : Result Standing Reply) : Type 0 where
   pub opened : Result Standing OpenFault
-  pub is_opening : IsOpening loaded.model loaded.users begins (numbered 0 seeds) opened
+  pub is_opening : IsOpening loaded.model loaded.users begins (numbered 0 seeds) now opened
   pub told : OpenedAs opened result
 
-abbrev pub OverFiles : Loaded → (Kept → Type 0) → Result (List seeds.Seed) ProjectFault → Result Standing Reply → Type 0
-OverFiles loaded begins (Ok seeds) result = OverSeeds loaded begins seeds result
-OverFiles loaded begins (Err (project.Model fault)) result = result ≡ Err (fault_reply fault)
-OverFiles loaded begins (Err project.Failed) result = ⊥
-OverFiles loaded begins (Err project.NoMemory) result = ⊥
+abbrev pub OverFiles : Loaded → (Kept → Type 0) → ℤ → Result (List seeds.Seed) ProjectFault → Result Standing Reply → Type 0
+OverFiles loaded begins now (Ok seeds) result = OverSeeds loaded begins now seeds result
+OverFiles loaded begins now (Err (project.Model fault)) result = result ≡ Err (fault_reply fault)
+OverFiles loaded begins now (Err project.Failed) result = ⊥
+OverFiles loaded begins now (Err project.NoMemory) result = ⊥
 
--- what is served of a project: queries alone, or all requests
-abbrev pub IsServable : Service → Model → Type 0
-IsServable service.Queries m = IsAnswerable m
-IsServable service.Requests m = IsServed m
+-- a model all of whose tables are stored is served; no other is so far (Z1)
+abbrev pub OverLoaded : List File → (Kept → Type 0) → ℤ → Result Loaded ProjectFault → Result Standing Reply → Type 0
+OverLoaded files begins now (Ok loaded) result =
+    (IsAnswerable loaded.model × OverFiles loaded begins now (seeds_of loaded.model.schema.tables files) result)
+    ⊎ ((IsAnswerable loaded.model → ⊥) × (result ≡ Err unanswered_reply))
+OverLoaded files begins now (Err (project.Model fault)) result = result ≡ Err (fault_reply fault)
+OverLoaded files begins now (Err project.Failed) result = ⊥
+OverLoaded files begins now (Err project.NoMemory) result = ⊥
 
--- a model is served as it may be; no other is so far (Z1)
-abbrev pub OverLoaded : Service → List File → (Kept → Type 0) → Result Loaded ProjectFault → Result Standing Reply → Type 0
-OverLoaded service files begins (Ok loaded) result =
-    (IsServable service loaded.model × OverFiles loaded begins (seeds_of loaded.model.schema.tables files) result)
-    ⊎ ((IsServable service loaded.model → ⊥) × (result ≡ Err unanswered_reply))
-OverLoaded service files begins (Err (project.Model fault)) result = result ≡ Err (fault_reply fault)
-OverLoaded service files begins (Err project.Failed) result = ⊥
-OverLoaded service files begins (Err project.NoMemory) result = ⊥
-
--- the edition that a folder's project opens over what a store handed over, or the line on why it does not
-pub record IsOpened (service : Service) (files : List File) (begins : Kept → Type 0) (result : Result Standing Reply) : Type 0 where
+-- the edition that a folder's project opens at a moment over what a store handed over, or the line on why it does not
+pub record IsOpened (files : List File) (begins : Kept → Type 0) (now : ℤ) (result : Result Standing Reply) : Type 0 where
   pub loaded : Result Loaded ProjectFault
   pub is_load : IsLoadOf files loaded
-  pub over : OverLoaded service files begins loaded result
+  pub over : OverLoaded files begins now loaded result
+
+-- the same at the next moment of a clock, as far as it tells
+pub record IsOpenedNext (files : List File) (begins : Kept → Type 0) (next : Option ℤ) (result : Result Standing Reply) : Type 0 where
+  pub moment : ℤ
+  pub is_next : IfSome next (λ told. moment ≡ told)
+  pub is : IsOpened files begins moment result

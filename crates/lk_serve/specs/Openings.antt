@@ -6,6 +6,7 @@ use Rattle.lk_io.specs.declared.files.File.{File}
 use Rattle.lk_state.specs.Openings.{Seed}
 use Rattle.lk_state.specs.declared.fault.OpenFault.{OpenFault}
 use Rattle.lk_state.specs.declared.fault.OpenFault.TheVariants as opening
+use Rattle.lk_edition.specs.Standings.{IsAnswerable}
 use Rattle.lk_resolve.specs.Loading.{IsLoadOf}
 use Rattle.lk_resolve.specs.declared.loading.Loaded.{Loaded}
 use Rattle.lk_seed.specs.Seeds.{seeds_of}
@@ -13,8 +14,7 @@ use Rattle.lk_seed.specs.Seeds as seeds
 use Rattle.lk_include.specs.declared.project.ProjectFault.{ProjectFault}
 use Rattle.lk_include.specs.declared.project.ProjectFault.TheVariants as project
 use Rattle.lk_serve.specs.Replies.{fault_reply, unanswered_reply}
-use Rattle.lk_serve.specs.Opened.{IsServable, Opens, TellsLine, line_of, numbered, open_line}
-use Rattle.lk_serve.specs.declared.opening.Service.{Service}
+use Rattle.lk_serve.specs.Opened.{Opens, TellsLine, line_of, numbered, open_line}
 use Rattle.lk_serve.specs.declared.opening.Why.{Why}
 use Rattle.lk_serve.specs.declared.opening.Why.TheVariants as why
 use Rattle.lk_serve.specs.declared.replies.Reply.{Reply}
@@ -54,19 +54,19 @@ IsFileLine (Err project.Failed) reply = ⊥
 IsFileLine (Err project.NoMemory) reply = ⊥
 
 -- a project that loads so opens nothing over any store, with this line
-abbrev pub IsUnserved : Service → List File → Result Loaded ProjectFault → Reply → Type 0
-IsUnserved service files (Ok loaded) reply =
-    (IsServable service loaded.model × IsFileLine (seeds_of loaded.model.schema.tables files) reply)
-    ⊎ ((IsServable service loaded.model → ⊥) × (reply ≡ unanswered_reply))
-IsUnserved service files (Err (project.Model fault)) reply = reply ≡ fault_reply fault
-IsUnserved service files (Err project.Failed) reply = ⊥
-IsUnserved service files (Err project.NoMemory) reply = ⊥
+abbrev pub IsUnserved : List File → Result Loaded ProjectFault → Reply → Type 0
+IsUnserved files (Ok loaded) reply =
+    (IsAnswerable loaded.model × IsFileLine (seeds_of loaded.model.schema.tables files) reply)
+    ⊎ ((IsAnswerable loaded.model → ⊥) × (reply ≡ unanswered_reply))
+IsUnserved files (Err (project.Model fault)) reply = reply ≡ fault_reply fault
+IsUnserved files (Err project.Failed) reply = ⊥
+IsUnserved files (Err project.NoMemory) reply = ⊥
 
 -- the files open nothing over any store, with this line
-pub record IsLine (service : Service) (files : List File) (reply : Reply) : Type 0 where
+pub record IsLine (files : List File) (reply : Reply) : Type 0 where
   pub loaded : Result Loaded ProjectFault
   pub is_load : IsLoadOf files loaded
-  pub over : IsUnserved service files loaded reply
+  pub over : IsUnserved files loaded reply
 
 -- ---- faults
 

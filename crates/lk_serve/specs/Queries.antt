@@ -13,7 +13,6 @@ use Rattle.lk_session.specs.Asking as asking
 use Rattle.lk_serve.specs.Keeping.{IsEmpty}
 use Rattle.lk_serve.specs.Opened.{IsOpened}
 use Rattle.lk_serve.specs.Replies.{ComesUnread, answer_reply, fault_reply, long_reply, printed_answer, refused_reply, unanswered_reply}
-use Rattle.lk_serve.specs.declared.opening.Service.TheVariants as service
 use Rattle.lk_serve.specs.declared.replies.Reply.{Reply}
 
 -- ---- over an edition
@@ -33,35 +32,30 @@ pub record IsAnswered (e : Standing) (user explore : List ℕ) (now : ℤ) (body
 abbrev pub small_input : List ℕ → Option (List ℕ)
 small_input input = if nat_le (length input) 16777216 then Some input else None
 
--- the same at a moment of the years 1 to 9999, which is the told one where the clock tells
-pub record IsAnsweredThen (e : Standing) (user explore : List ℕ) (now : Option ℤ) (body : List ℕ) (reply : Reply) : Type 0 where
-  pub moment : ℤ
-  pub years : IsMomentInYears moment
-  pub told : IfSome now (λ told. moment ≡ told)
-  pub answered : IsAnswered e user explore moment body reply
-
--- a longer input is refused as it is; any other is answered at the moment
-abbrev pub OverBody : Standing → List ℕ → List ℕ → Option ℤ → Option (List ℕ) → Reply → Type 0
+-- a longer input is refused as it is; any other is answered at the moment, which is of the years 1 to 9999
+abbrev pub OverBody : Standing → List ℕ → List ℕ → ℤ → Option (List ℕ) → Reply → Type 0
 OverBody e user explore now None reply = reply ≡ long_reply
-OverBody e user explore now (Some body) reply = IsAnsweredThen e user explore now body reply
+OverBody e user explore now (Some body) reply = IsMomentInYears now × IsAnswered e user explore now body reply
 
 -- the same of the input, as far as it is told
-pub record OverEdition (e : Standing) (user explore : List ℕ) (input : Option (List ℕ)) (now : Option ℤ) (reply : Reply) : Type 0 where
+pub record OverEdition (e : Standing) (user explore : List ℕ) (input : Option (List ℕ)) (now : ℤ) (reply : Reply) : Type 0 where
   pub read : ComesUnread reply.status → ⊥
   pub is : IfSome input (λ left. OverBody e user explore now (small_input left) reply)
 
 -- ---- over files
 
 -- the project opens with an edition, over which the query is answered or refused, or it does not, with a line
-abbrev pub OverOpened : List ℕ → List ℕ → Option (List ℕ) → Option ℤ → Result Standing Reply → Reply → Type 0
+abbrev pub OverOpened : List ℕ → List ℕ → Option (List ℕ) → ℤ → Result Standing Reply → Reply → Type 0
 OverOpened user explore input now (Ok e) reply = OverEdition e user explore input now reply
 OverOpened user explore input now (Err line) reply = reply ≡ line
 
--- the files open as something over an empty store, over which the reply is told
+-- the files open as something over an empty store at a moment, over which the reply is told at that moment; it is the told one where the clock tells
 pub record IsQueried (files : List File) (user explore : List ℕ) (input : Option (List ℕ)) (now : Option ℤ) (reply : Reply) : Type 0 where
+  pub moment : ℤ
+  pub is_now : IfSome now (λ told. moment ≡ told)
   pub opened : Result Standing Reply
-  pub is_opened : IsOpened service.Queries files IsEmpty opened
-  pub told : OverOpened user explore input now opened reply
+  pub is_opened : IsOpened files IsEmpty moment opened
+  pub told : OverOpened user explore input moment opened reply
 
 -- ---- whatever the objects show
 

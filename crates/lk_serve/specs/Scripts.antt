@@ -11,9 +11,8 @@ use Rattle.lk_session.specs.Runs.{IsSession}
 use Rattle.lk_session.specs.Servers.{server}
 use Rattle.lk_session.specs.declared.ended.Ended.{Ended}
 use Rattle.lk_session.specs.declared.ended.Ended.TheVariants as ended
-use Rattle.lk_serve.specs.Opened.{IsOpened, TellsLine}
-use Rattle.lk_serve.specs.Runs.{IsAskedOnce}
-use Rattle.lk_serve.specs.declared.opening.Service.TheVariants.{Requests}
+use Rattle.lk_serve.specs.Opened.{IsOpenedNext, TellsLine}
+use Rattle.lk_serve.specs.Runs.{IsAskedOnce, next_moment}
 use Rattle.lk_serve.specs.declared.replies.Reply.{Reply}
 
 -- ---- the end
@@ -51,7 +50,7 @@ pub record IsUntouched (a b : Outside) : Type 0 where
 pub record DidNotOpen (files : Option (List File)) (begins : Kept → Type 0) (a b : Outside) (status : ℕ) : Type 0 where
   pub reply : Reply
   pub tells : TellsLine reply
-  pub is : IfSome files (λ told. IsOpened Requests told begins (Err reply))
+  pub is : IfSome files (λ told. IsOpenedNext told begins (next_moment a.moments) (Err reply))
   pub untouched : IsUntouched a b
   pub asked : IsAskedOnce a.moments b.moments
   pub out : ((status ≡ 1) × Appends a.out b.out reply.body) ⊎ ((status ≡ 4) × AppendsFront a.out b.out reply.body)
@@ -71,7 +70,7 @@ IsServedBy e a b how = IfSome a.left (λ bytes. (last : Standing)
 -- the server opened at the next moment, and the run is a session of it at those behind
 pub record Served (files : Option (List File)) (begins : Kept → Type 0) (a b : Outside) (status : ℕ) : Type 0 where
   pub e : Standing
-  pub is : IfSome files (λ told. IsOpened Requests told begins (Ok e))
+  pub is : IfSome files (λ told. IsOpenedNext told begins (next_moment a.moments) (Ok e))
   pub begun : Outside
   pub untouched : IsUntouched a begun
   pub asked : begun.moments ≡ option_map later a.moments

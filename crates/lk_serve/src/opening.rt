@@ -1,22 +1,23 @@
-ghost use Rattle.std.specs.Prelude.{◌≡◌, ◌<◌, ◌≤◌, List, Err, IfErr, IfOk, IfSome, Ok, OnOk, Some, length, true, false};
+ghost use Rattle.std.specs.Prelude.{◌≡◌, ◌<◌, ◌≤◌, List, [], Err, IfErr, IfOk, IfSome, Ok, OnOk, Some, length, true, false};
 ghost use Rattle.std.specs.List.{All};
 ghost use Rattle.std.specs.Option.{option_map};
 ghost use Rattle.lk_io.specs.Causes.{Rose};
 ghost use Rattle.lk_io.specs.Moments.{later};
 ghost use Rattle.lk_val.specs.Years.{IsMomentInYears};
+ghost use Rattle.lk_val.specs.declared.fault.ModelFault.TheVariants as model;
 ghost use Rattle.lk_types.specs.Printing.{value_text};
 ghost use Rattle.lk_semantics.specs.Resolved.{IsResolved};
+ghost use Rattle.lk_include.specs.Gathering.{file_line};
 ghost use Rattle.lk_seed.specs.Seeds.{Seed, seeds_of};
 ghost use Rattle.lk_state.specs.Openings.{AreSeeds};
 ghost use Rattle.lk_state.specs.declared.fault.OpenFault.{OpenFault};
 ghost use Rattle.lk_edition.specs.Offices.{Begins, IsOpening, standing_in};
-ghost use Rattle.lk_edition.specs.Standings.{IsAnswerable, IsServed};
+ghost use Rattle.lk_edition.specs.Standings.{IsAnswerable};
 ghost use Rattle.lk_session.specs.Steps.{keeper_in};
 ghost use Rattle.lk_serve.specs.Keeping.{IsEmpty};
-ghost use Rattle.lk_serve.specs.Opened.{IsOpened, IsServable, Opens, numbered, open_fault, open_line, unread_fault, unread_line};
+ghost use Rattle.lk_serve.specs.Opened.{IsOpened, IsOpenedNext, Opens, numbered, open_fault, open_line, unread_fault, unread_line};
 ghost use Rattle.lk_serve.specs.Openings.{HasWhyCause, IsFaulty, IsLine, IsProject, IsUnserved, IsWhy, OpensNot, ProjectNot, TellsFault, with_seed};
 ghost use Rattle.lk_serve.specs.Runs.{IsAskedOnce, next_moment};
-ghost use Rattle.lk_serve.specs.declared.opening.Service.{Service};
 ghost use Rattle.lk_serve.specs.declared.opening.Why.{Why};
 
 use crate::keeping::empty_kept;
@@ -32,14 +33,6 @@ use lk_table::BatchFault;
 use lk_types::{Model, Shape, print_cell};
 use lk_val::{Bytes, Cell, FaultLine, Items, ModelFault, NoMemory, Text, Value};
 use std::alloc::Global;
-
-/// What a project is opened for: queries alone, over any resolved model all of whose tables are stored; or all requests, over
-/// such a model that has no datagroups, so that a check has nothing to build.
-#[derive(Clone, Copy, PartialEq, Eq)]
-pub enum Service {
-    Queries,
-    Requests,
-}
 
 /// Why a project did not open.
 #[derive(Drop)]
@@ -87,18 +80,18 @@ struct Opening {
 
 /// The edition that a folder's project opens over an empty store for queries, or why it opens none: the first fault of the
 /// project, Z1 for a model that is not answered over, a data file that is too big (P1), the first data file that does not read
-/// (L3, L5, L4), or tables over a limit (L6). The clock is asked once, before the tables are read, and not at all where the
-/// project's files open nothing. (lookd)
-#[tactic(auto, using(crate::proofs::MomentLaws::next_is, crate::proofs::OpenedLaws::line_opens))]
+/// (L3, L5, L4), tables over a limit (L6), or a build that is too large (G2). The clock is asked once, before the tables are
+/// read, and not at all where the project's files open nothing. (lookd)
+#[tactic(auto, using(crate::proofs::MomentLaws::next_is, crate::proofs::MomentLaws::unopened_next, crate::proofs::OpenedLaws::line_opens))]
 pub fn open_edition<F: Files, C: Clock>(
     alloc: Global,
     files: &mut F,
     clock: &mut C,
 ) -> Result<Opened, Why>
     ensures opened { IfSome (F.told files.old) (λ told. IfOk result (λ opened.
-        IsOpened Service.Queries told IsEmpty (Ok opened.edition))) }
+        IsOpened told IsEmpty opened.now (Ok opened.edition))) }
     ensures unopened { IfSome (F.told files.old) (λ told. IfErr result
-        (IsWhy (λ reply. IsOpened Service.Queries told IsEmpty (Err reply)))) }
+        (IsWhy (λ reply. IsOpenedNext told IsEmpty (next_moment (C.moments clock.old)) (Err reply)))) }
     ensures faulty { IfErr result IsFaulty }
     ensures number { IfOk result (λ opened. opened.edition.state.number ≡ 0) }
     ensures years { IfOk result (λ opened. IsMomentInYears opened.now) }
@@ -109,19 +102,20 @@ pub fn open_edition<F: Files, C: Clock>(
     ensures never { IfErr result (λ why. why ≡ Why.Store → ⊥) }
     ensures same { F.told files.new ≡ F.told files.old }
 {
-    let opening = read_project(alloc, files, Service::Queries)?;
+    let opening = read_project(alloc, files)?;
     let now = clock.now();
-    let edition = edition_over(alloc, opening)?;
+    let edition = edition_over(alloc, opening, now)?;
     Ok(Opened { edition, now })
 }
 
-fn edition_over(alloc: Global, opening: Opening) -> Result<Edition, Why>
+fn edition_over(alloc: Global, opening: Opening, now: i64) -> Result<Edition, Why>
     requires answerable { IsAnswerable opening.loaded.model }
+    requires years { IsMomentInYears now }
     requires seeds { AreSeeds opening.loaded.model.schema.tables opening.seeds.items }
     ensures opened { IfOk result (λ edition. IsOpening opening.loaded.model opening.loaded.users IsEmpty
-        opening.seeds.items (Ok edition)) }
+        opening.seeds.items now (Ok edition)) }
     ensures unopened { IfErr result (IsWhy (λ reply. (fault : OpenFault) × Opens (open_line fault) reply
-        × IsOpening opening.loaded.model opening.loaded.users IsEmpty opening.seeds.items (Err fault))) }
+        × IsOpening opening.loaded.model opening.loaded.users IsEmpty opening.seeds.items now (Err fault))) }
     ensures faulty { IfErr result IsFaulty }
     ensures number { IfOk result (λ edition. edition.state.number ≡ 0) }
     ensures store { IfErr result (λ why. why ≡ Why.Store → ⊥) }
@@ -129,7 +123,14 @@ fn edition_over(alloc: Global, opening: Opening) -> Result<Edition, Why>
 {
     let Opening { loaded, seeds } = opening;
     let Loaded { model, users } = loaded;
-    match Edition::open(alloc, model, users, empty_kept(alloc), seeds.as_slice()) {
+    match Edition::open(
+        alloc,
+        model,
+        users,
+        empty_kept(alloc),
+        seeds.as_slice(),
+        now,
+    ) {
         Ok(edition) => Ok(edition),
         Err(fault) => Err(why_not(alloc, fault)),
     }
@@ -137,9 +138,10 @@ fn edition_over(alloc: Global, opening: Opening) -> Result<Edition, Why>
 
 /// The server that a folder's project opens over a store, or why it does not: the first fault of the project, Z1 for a model
 /// that is not served, a data file that is too big (P1), the first kept batch that does not read (O1), the first data file
-/// that does not read (L3, L5, L4), or tables over a limit (L6). The clock is asked once, before the store is read, and not at
-/// all where the project's files open nothing. It changes neither the files nor what the store holds. (lookd)
-#[tactic(auto, using(crate::proofs::OpenedLaws::line_opens))]
+/// that does not read (L3, L5, L4), tables over a limit (L6), or a build that is too large (G2). The clock is asked once, before
+/// the store is read, and not at all where the project's files open nothing. It changes neither the files nor what the store
+/// holds. (lookd)
+#[tactic(auto, using(crate::proofs::MomentLaws::next_is, crate::proofs::MomentLaws::opened_next, crate::proofs::MomentLaws::unopened_next, crate::proofs::OpenedLaws::line_opens))]
 pub fn open_office<F: Files, K: Keeper, C: Clock>(
     alloc: Global,
     files: &mut F,
@@ -147,9 +149,9 @@ pub fn open_office<F: Files, K: Keeper, C: Clock>(
     clock: &mut C,
 ) -> Result<Office<K>, Unserved<K>>
     ensures opened { IfSome (F.told files.old) (λ told. IfOk result (λ office.
-        IsOpened Service.Requests told (Begins (K.held keeper) (K.handed keeper)) (Ok (standing_in office)))) }
+        IsOpenedNext told (Begins (K.held keeper) (K.handed keeper)) (next_moment (C.moments clock.old)) (Ok (standing_in office)))) }
     ensures unopened { IfSome (F.told files.old) (λ told. IfErr result (λ unserved.
-        IsWhy (λ reply. IsOpened Service.Requests told (Begins (K.held keeper) (K.handed keeper)) (Err reply)) unserved.why)) }
+        IsWhy (λ reply. IsOpenedNext told (Begins (K.held keeper) (K.handed keeper)) (next_moment (C.moments clock.old)) (Err reply)) unserved.why)) }
     ensures faulty { IfErr result (λ unserved. IsFaulty unserved.why) }
     ensures kept_ok { IfOk result (λ office. K.held (keeper_in office) ≡ K.held keeper) }
     ensures kept_err { IfErr result (λ unserved. K.held unserved.keeper ≡ K.held keeper) }
@@ -161,11 +163,10 @@ pub fn open_office<F: Files, K: Keeper, C: Clock>(
     ensures later { F.faults files.old ≤ F.faults files.new }
     ensures same { F.told files.new ≡ F.told files.old }
 {
-    match read_project(alloc, files, Service::Requests) {
+    match read_project(alloc, files) {
         Ok(opening) => {
-            // The moment of the opening, at which nothing is built so far.
-            let _opened = clock.now();
-            open_over(alloc, opening, keeper)
+            let moment = clock.now();
+            open_over(alloc, opening, keeper, moment)
         }
         Err(why) => Err(Unserved { why, keeper }),
     }
@@ -175,13 +176,15 @@ fn open_over<K: Keeper>(
     alloc: Global,
     opening: Opening,
     keeper: K,
+    now: i64,
 ) -> Result<Office<K>, Unserved<K>>
-    requires served { IsServed opening.loaded.model }
+    requires answerable { IsAnswerable opening.loaded.model }
+    requires years { IsMomentInYears now }
     requires seeds { AreSeeds opening.loaded.model.schema.tables opening.seeds.items }
-    ensures opened { IfOk result (λ office. IsOpening opening.loaded.model opening.loaded.users (Begins (K.held keeper) (K.handed keeper)) opening.seeds.items
+    ensures opened { IfOk result (λ office. IsOpening opening.loaded.model opening.loaded.users (Begins (K.held keeper) (K.handed keeper)) opening.seeds.items now
         (Ok (standing_in office))) }
     ensures unopened { IfErr result (λ unserved. IsWhy (λ reply. (fault : OpenFault) × Opens (open_line fault) reply
-        × IsOpening opening.loaded.model opening.loaded.users (Begins (K.held keeper) (K.handed keeper)) opening.seeds.items (Err fault)) unserved.why) }
+        × IsOpening opening.loaded.model opening.loaded.users (Begins (K.held keeper) (K.handed keeper)) opening.seeds.items now (Err fault)) unserved.why) }
     ensures faulty { IfErr result (λ unserved. IsFaulty unserved.why) }
     ensures kept_ok { IfOk result (λ office. K.held (keeper_in office) ≡ K.held keeper) }
     ensures kept_err { IfErr result (λ unserved. K.held unserved.keeper ≡ K.held keeper) }
@@ -192,7 +195,7 @@ fn open_over<K: Keeper>(
 {
     let Opening { loaded, seeds } = opening;
     let Loaded { model, users } = loaded;
-    match Office::open(alloc, model, users, keeper, seeds.as_slice()) {
+    match Office::open(alloc, model, users, keeper, seeds.as_slice(), now) {
         Ok(office) => Ok(office),
         Err(Unopened { fault, keeper }) => Err(Unserved {
             why: why_not(alloc, fault),
@@ -237,15 +240,23 @@ fn open_fault(alloc: Global, fault: OpenFault) -> Result<ModelFault, NoMemory>
     match fault {
         OpenFault::Unread(table, fault) => unread_fault(alloc, table, fault),
         OpenFault::Seed(table, fault) => seed_fault(alloc, &table, fault),
-        OpenFault::Full => Ok(ModelFault::Fault(FaultLine {
-            code: Text::from_str(alloc, "L6")?,
-            path: Text::new(alloc),
-            place: 0,
-            name: Text::new(alloc),
-            other: Text::new(alloc),
-        })),
+        OpenFault::Full => limit_fault(alloc, "L6", Text::new(alloc)),
+        OpenFault::Large(name) => limit_fault(alloc, "G2", name),
         OpenFault::Store | OpenFault::NoMemory => Ok(ModelFault::NoMemory),
     }
+}
+
+// The fault of a limit that the opening passes.
+fn limit_fault(alloc: Global, code: &str, name: Text) -> Result<ModelFault, NoMemory>
+    ensures { IfOk result (λ told. told ≡ model.Fault (file_line code.now [] 0 name)) }
+{
+    Ok(ModelFault::Fault(FaultLine {
+        code: Text::from_str(alloc, code)?,
+        path: Text::new(alloc),
+        place: 0,
+        name,
+        other: Text::new(alloc),
+    }))
 }
 
 // The fault of a kept batch, by its table.
@@ -286,11 +297,11 @@ fn printed(alloc: Global, key: Value) -> Result<Text, NoMemory>
 }
 
 // The project of the files, where it is served so.
-fn read_project<F: Files>(alloc: Global, files: &mut F, service: Service) -> Result<Opening, Why>
+fn read_project<F: Files>(alloc: Global, files: &mut F) -> Result<Opening, Why>
     ensures project { IfSome (F.told files.old) (λ told. IfOk result (λ opening. IsProject told opening.loaded opening.seeds.items)) }
-    ensures line { IfSome (F.told files.old) (λ told. IfErr result (IsWhy (IsLine service told))) }
+    ensures line { IfSome (F.told files.old) (λ told. IfErr result (IsWhy (IsLine told))) }
     ensures faulty { IfErr result IsFaulty }
-    ensures served { IfOk result (λ opening. IsServable service opening.loaded.model) }
+    ensures answerable { IfOk result (λ opening. IsAnswerable opening.loaded.model) }
     ensures seeds { IfOk result (λ opening. AreSeeds opening.loaded.model.schema.tables opening.seeds.items) }
     ensures later { F.faults files.old ≤ F.faults files.new }
     ensures cause { IfErr result (λ why. why ≡ Why.Files → Rose (F.faults files.old) (F.faults files.new)) }
@@ -298,7 +309,7 @@ fn read_project<F: Files>(alloc: Global, files: &mut F, service: Service) -> Res
     ensures same { F.told files.new ≡ F.told files.old }
 {
     match load(alloc, files) {
-        Ok(loaded) => read_batches(alloc, files, loaded, service),
+        Ok(loaded) => read_batches(alloc, files, loaded),
         Err(fault) => Err(project_not(alloc, fault)),
     }
 }
@@ -319,26 +330,21 @@ fn project_not(alloc: Global, fault: ProjectFault) -> Why
 }
 
 // The batches of a project's data files, where it is served so.
-fn read_batches<F: Files>(
-    alloc: Global,
-    files: &mut F,
-    loaded: Loaded,
-    service: Service,
-) -> Result<Opening, Why>
+fn read_batches<F: Files>(alloc: Global, files: &mut F, loaded: Loaded) -> Result<Opening, Why>
     requires { IsResolved loaded.model }
     ensures loaded { IfOk result (λ opening. opening.loaded ≡ loaded) }
     ensures batches { IfSome (F.told files.old) (λ told. IfOk result (λ opening. (found : List Seed)
         × (Ok found ≡ seeds_of loaded.model.schema.tables told) × (opening.seeds.items ≡ numbered 0 found))) }
-    ensures line { IfSome (F.told files.old) (λ told. IfErr result (IsWhy (IsUnserved service told (Ok loaded)))) }
+    ensures line { IfSome (F.told files.old) (λ told. IfErr result (IsWhy (IsUnserved told (Ok loaded)))) }
     ensures faulty { IfErr result IsFaulty }
-    ensures served { IfOk result (λ opening. IsServable service loaded.model) }
+    ensures answerable { IfOk result (λ opening. IsAnswerable loaded.model) }
     ensures seeds { IfOk result (λ opening. AreSeeds loaded.model.schema.tables opening.seeds.items) }
     ensures later { F.faults files.old ≤ F.faults files.new }
     ensures cause { IfErr result (λ why. why ≡ Why.Files → Rose (F.faults files.old) (F.faults files.new)) }
     ensures never { IfErr result (λ why. why ≡ Why.Store → ⊥) }
     ensures same { F.told files.new ≡ F.told files.old }
 {
-    if !is_servable(&loaded.model, service) {
+    if !is_answerable(&loaded.model) {
         return Err(Why::Told(unanswered(alloc)?));
     }
     match read_seeds(alloc, files, &loaded.model.schema) {
@@ -350,34 +356,13 @@ fn read_batches<F: Files>(
     }
 }
 
-// Whether a model is served so.
-fn is_servable(m: &Model, service: Service) -> bool
-    requires { IsResolved m.now }
-    ensures yes { result ≡ true → IsServable service m.now }
-    ensures no { result ≡ false → IsServable service m.now → ⊥ }
-{
-    match service {
-        Service::Queries => is_answerable(m),
-        Service::Requests => is_served(m),
-    }
-}
-
-// Whether queries are answered over a model: all its tables are stored. What a project loads to is then a resolved model.
+// Whether a model is served: all its tables are stored. What a project loads to is then a resolved model.
 fn is_answerable(m: &Model) -> bool
     requires { IsResolved m.now }
     ensures yes { result ≡ true → IsAnswerable m.now }
     ensures no { result ≡ false → IsAnswerable m.now → ⊥ }
 {
     m.derived.is_empty()
-}
-
-// Whether all requests are served over a model: queries are, and it has no datagroups.
-fn is_served(m: &Model) -> bool
-    requires { IsResolved m.now }
-    ensures yes { result ≡ true → IsServed m.now }
-    ensures no { result ≡ false → IsServed m.now → ⊥ }
-{
-    m.datagroups.is_empty() && is_answerable(m)
 }
 
 // The batches of tables, each with its table's number.

@@ -1,4 +1,4 @@
-ghost use Rattle.std.specs.Prelude.{◌≡◌, IfErr, IfOk, IfSome, Some};
+ghost use Rattle.std.specs.Prelude.{◌≡◌, IfErr, IfOk, IfSome};
 ghost use Rattle.std.specs.Io.KnownBytes.{IsAtEnd};
 ghost use Rattle.lk_val.specs.Years.{IsMomentInYears};
 ghost use Rattle.lk_serve.specs.Queries.{IsAnswered, IsQueried, OverEdition, TellsSome};
@@ -22,7 +22,7 @@ use std::alloc::Global;
 /// The reply to a caller's query on an explore of the project that the files are: its answer, its refusal, or the line on why
 /// the project does not open. It opens over an empty store; the clock is asked once, at the opening, and the input is read last.
 /// (lookd)
-#[tactic(auto, using(crate::proofs::MomentLaws::queried_then))]
+#[tactic(auto, using(crate::proofs::MomentLaws::queried_then, crate::proofs::MomentLaws::unqueried_then))]
 pub fn query<F: Files, I: Source, C: Clock>(
     alloc: Global,
     user: &Text,
@@ -63,7 +63,7 @@ fn over_edition<I: Source>(
 ) -> Result<Reply, Stop>
     requires moment { IsMomentInYears now }
     requires number { edition.now.state.number ≡ 0 }
-    ensures reply { IfOk result (OverEdition edition.now user.now explore.now (I.left input.old) (Some now)) }
+    ensures reply { IfOk result (OverEdition edition.now user.now explore.now (I.left input.old) now) }
     ensures cause { HasStopCause Stop.Input (I.faults input.old) (I.faults input.new) result }
     ensures files { NeverStops Stop.Files result }
     ensures tells { IfOk result TellsSome }

@@ -3,9 +3,14 @@ use Rattle.std.proofs.Common.{◌≡◌, ◌∙◌, ◌++◌, ◌+◌, ◌≤◌
 use Rattle.std.specs.Prelude.{ℤ, ◌⊎◌, if◌then◌else◌, Ok, Err, Result}
 use Rattle.lk_io.specs.Causes.{Rose}
 use Rattle.lk_types.specs.declared.answer.Reply.{Reply}
+use Rattle.lk_command_reply.specs.declared.fault.CheckFault.{CheckFault}
 use Rattle.lk_command_reply.specs.declared.fault.LoadFault.{LoadFault}
+use Rattle.lk_edition.specs.Checks.{check_planned}
 use Rattle.lk_edition.specs.Loads.{load_planned}
+use Rattle.lk_edition.specs.Plans.{Planned}
 use Rattle.lk_edition.specs.Standings.{Standing}
+use Rattle.lk_edition.specs.declared.plan.CheckPlan.{CheckPlan}
+use Rattle.lk_edition.specs.declared.plan.CheckPlan.TheVariants.{New as new_check, Nothing}
 use Rattle.lk_edition.specs.declared.plan.LoadPlan.{LoadPlan}
 use Rattle.lk_edition.specs.declared.plan.LoadPlan.TheVariants.{Kept as kept_plan, New}
 use Rattle.lk_http.specs.Items.{Item}
@@ -16,25 +21,35 @@ use Rattle.lk_http.specs.declared.request.Request.{Request}
 use Rattle.lk_http.specs.declared.request.Target.{Target}
 use Rattle.lk_http.specs.declared.request.Target.TheVariants as target
 use Rattle.lk_session.specs.Runs.{AreTurns, IsRun, failures}
-use Rattle.lk_session.specs.Servers.{IsRefusal, ItemDoes, LoadDoes, Sent, Server, Store, TargetDoes, call_of, http_reply}
+use Rattle.lk_session.specs.Servers.{CheckDoes, IsCommitted, IsRefusal, ItemDoes, LoadDoes, Sent, Server, Store, TargetDoes, call_of, http_reply}
 use Rattle.lk_session.specs.declared.ended.Ended.{Ended}
 use Rattle.lk_session.proofs.ServingLaws.{IsPlain, IsUnsaved, target_plain}
 
 -- ---- counts never fall
 
+committed_later : (e : Standing) (p : Planned) (reply : Reply) (e' : Standing) (store store' : Store)
+    → IsCommitted e p reply e' store store' → store.faults ≤ store'.faults
+committed_later e p reply e' store store' (inl does) = does.2.later
+committed_later e p reply e' store store' (inr does) = does.1.saves.later
+
 load_later : (e : Standing) (plan : Result LoadPlan LoadFault) (reply : Reply) (e' : Standing) (store store' : Store)
     → LoadDoes e plan reply e' store store' → store.faults ≤ store'.faults
 load_later e (Err fault) reply e' store store' does = does.2.saves.later
 load_later e (Ok (kept_plan kept)) reply e' store store' does = does.1.saves.later
-load_later e (Ok (New p)) reply e' store store' (inl does) = does.2.later
-load_later e (Ok (New p)) reply e' store store' (inr does) = does.1.saves.later
+load_later e (Ok (New p)) reply e' store store' does = committed_later e p reply e' store store' does
+
+check_later : (e : Standing) (plan : Result CheckPlan CheckFault) (reply : Reply) (e' : Standing) (store store' : Store)
+    → CheckDoes e plan reply e' store store' → store.faults ≤ store'.faults
+check_later e (Err fault) reply e' store store' does = does.2.saves.later
+check_later e (Ok (Nothing unbuilt)) reply e' store store' does = does.1.saves.later
+check_later e (Ok (new_check p)) reply e' store store' does = committed_later e p reply e' store store' does
 
 target_later : (e : Standing) (now : ℤ) (request : Request) (t : Target) (reply : Reply) (e' : Standing) (store store' : Store)
     → TargetDoes e now request t reply e' store store' → store.faults ≤ store'.faults
 target_later e now request (target.Query explore) reply e' store store' does = does.1.saves.later
 target_later e now request (target.Load table replace id) reply e' store store' does =
     load_later e (load_planned e (call_of request table replace id)) reply e' store store' does
-target_later e now request target.Check reply e' store store' does = does.1.saves.later
+target_later e now request target.Check reply e' store store' does = check_later e (check_planned e request.user now) reply e' store store' does
 
 -- ---- a turn
 

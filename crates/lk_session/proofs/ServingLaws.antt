@@ -1,28 +1,34 @@
 -- What each reply to a request has: a status that is written, and 503 only where the store failed.
-use Rattle.std.proofs.Common.{◌≡◌, ◌∙◌, ◌==◌, ◌||◌, ℕ, Bool, true, false, List, refl, sym, ap, subst, inl, inr}
-use Rattle.std.specs.Prelude.{ℤ, ◌⊎◌, ⊤, if◌then◌else◌, Result, Ok, Err, Option, Some, None}
+use Rattle.std.proofs.Common.{◌≡◌, ◌∙◌, ◌==◌, ◌||◌, ℕ, Bool, true, false, List, [], ◌∷◌, refl, sym, ap, subst, inl, inr}
+use Rattle.std.specs.Prelude.{ℤ, ◌+◌, nat_lt, ◌⊎◌, ⊤, if◌then◌else◌, Result, Ok, Err, Option, Some, None}
 use Rattle.lk_io.specs.Causes.{Rose}
 use Rattle.lk_types.specs.declared.answer.Reply.{Reply}
 use Rattle.lk_semantics.specs.Derived.{explore_at}
+use Rattle.lk_table.specs.Contents.{rows_of_each}
 use Rattle.lk_table.specs.declared.fault.BatchFault.{BatchFault}
 use Rattle.lk_load.specs.Loading.{LoadedTable}
+use Rattle.lk_rollup.specs.declared.fault.BuildFault.{BuildFault}
+use Rattle.lk_rollup.specs.declared.fault.BuildFault.TheVariants as build
+use Rattle.lk_keeps.specs.Anew.{kept_anew}
+use Rattle.lk_keeps.specs.Keeps.{Keeps}
 use Rattle.lk_ledger.specs.declared.kept.KeptId.{KeptId}
 use Rattle.lk_ask.specs.declared.fault.AskFault.{AskFault}
 use Rattle.lk_ask.specs.declared.fault.AskFault.TheVariants as ask
 use Rattle.lk_ask.specs.declared.told.Told.{Told}
 use Rattle.lk_reply.specs.Statuses.{answer_reply, refusal_reply, status_of}
 use Rattle.lk_command_reply.specs.Refusals.{check_refusal, check_status, load_refusal, load_status, unsaved_reply}
-use Rattle.lk_command_reply.specs.Replies.{unbuilt_reply}
 use Rattle.lk_command_reply.specs.declared.fault.CheckFault.{CheckFault}
 use Rattle.lk_command_reply.specs.declared.fault.CheckFault.TheVariants as check
 use Rattle.lk_command_reply.specs.declared.fault.LoadFault.{LoadFault}
 use Rattle.lk_command_reply.specs.declared.fault.LoadFault.TheVariants as load
 use Rattle.lk_state.specs.Tables.{table_named}
-use Rattle.lk_edition.specs.Checks.{check_planned}
+use Rattle.lk_edition.specs.Checks.{check_planned, groups_triggered, over_keeps, over_triggered}
 use Rattle.lk_edition.specs.Loads.{into_table, is_loader, load_planned, over_batch, planned, unless_kept}
 use Rattle.lk_edition.specs.Plans.{Planned}
 use Rattle.lk_edition.specs.Standings.{Standing}
 use Rattle.lk_edition.specs.declared.call.LoadCall.{LoadCall}
+use Rattle.lk_edition.specs.declared.plan.CheckPlan.{CheckPlan}
+use Rattle.lk_edition.specs.declared.plan.CheckPlan.TheVariants.{New as new_check, Nothing}
 use Rattle.lk_edition.specs.declared.plan.LoadPlan.{LoadPlan}
 use Rattle.lk_edition.specs.declared.plan.LoadPlan.TheVariants.{Kept as kept_plan, New}
 use Rattle.lk_http.specs.Replies.{is_status}
@@ -30,7 +36,7 @@ use Rattle.lk_http.specs.declared.request.Request.{Request}
 use Rattle.lk_http.specs.declared.request.Target.{Target}
 use Rattle.lk_http.specs.declared.request.Target.TheVariants as target
 use Rattle.lk_session.specs.Asking.{replied}
-use Rattle.lk_session.specs.Servers.{ChecksTo, IsQueried, LoadDoes, Serves, Store, TargetDoes, Tells, call_of}
+use Rattle.lk_session.specs.Servers.{CheckDoes, IsCommitted, IsQueried, LoadDoes, Serves, Store, TargetDoes, Tells, call_of}
 
 -- ---- statuses
 
@@ -62,6 +68,7 @@ load_status_is load.NoMemory = (refl, refl)
 
 check_status_is : (fault : CheckFault) → IsPlain (check_status fault)
 check_status_is (check.G1 user) = (refl, refl)
+check_status_is (check.G2 table) = (refl, refl)
 check_status_is check.NoMemory = (refl, refl)
 
 -- a reply that is another has its status
@@ -116,23 +123,54 @@ plan_plain e call = plain_loader e call (is_loader e.users call.user)
 abbrev pub IsUnsaved : Reply → Store → Store → Type 0
 IsUnsaved reply store store' = (reply ≡ unsaved_reply) × Rose store.faults store'.faults
 
+-- the reply to a commit is plain where the plan's is, unless the store failed
+committed_plain : (e : Standing) (p : Planned) (reply : Reply) (e' : Standing) (store store' : Store)
+    → IsPlain p.reply.status → IsCommitted e p reply e' store store' → IsPlain reply.status ⊎ IsUnsaved reply store store'
+committed_plain e p reply e' store store' plain (inl does) = inl (same_status reply p.reply does.0 plain)
+committed_plain e p reply e' store store' plain (inr does) = inr (does.0, does.2)
+
 -- the reply to a load is plain, unless the store failed
 load_plain : (e : Standing) (plan : Result LoadPlan LoadFault) (reply : Reply) (e' : Standing) (store store' : Store)
     → HasPlain plan → LoadDoes e plan reply e' store store' → IsPlain reply.status ⊎ IsUnsaved reply store store'
 load_plain e (Err fault) reply e' store store' plain does = inl (same_status reply (load_refusal fault) does.1 (load_status_is fault))
 load_plain e (Ok (kept_plan kept)) reply e' store store' plain does = inl (same_status reply kept does.0 plain)
-load_plain e (Ok (New p)) reply e' store store' plain (inl does) = inl (same_status reply p.reply does.0 plain)
-load_plain e (Ok (New p)) reply e' store store' plain (inr does) = inr (does.0, does.2)
+load_plain e (Ok (New p)) reply e' store store' plain does = committed_plain e p reply e' store store' plain does
 
 -- ---- checks
 
-planned_plain : (b : Bool) (e : Standing) (user : List ℕ) (reply : Reply) → Ok reply ≡ (if b then Ok (unbuilt_reply e.state.number) else Err (check.G1 user)) → IsPlain reply.status
-planned_plain true e user reply is = same_status reply (unbuilt_reply e.state.number) (cc is) (refl, refl)
-planned_plain false e user reply is = absurd (cc is)
+abbrev HasPlainCheck : Result CheckPlan CheckFault → Type 0
+HasPlainCheck (Err fault) = ⊤
+HasPlainCheck (Ok (Nothing reply)) = IsPlain reply.status
+HasPlainCheck (Ok (new_check p)) = IsPlain p.reply.status
 
-check_plain : (planned : Result Reply CheckFault) (e : Standing) (user : List ℕ) (reply : Reply) → planned ≡ check_planned e user → ChecksTo planned reply → IsPlain reply.status
-check_plain (Err fault) e user reply is does = same_status reply (check_refusal fault) does.1 (check_status_is fault)
-check_plain (Ok unbuilt) e user reply is does = same_status reply unbuilt does (planned_plain (is_loader e.users user) e user unbuilt is)
+plain_keeps : (e : Standing) (groups : List ℕ) (now : ℤ) (keeps : Result Keeps BuildFault) → HasPlainCheck (over_keeps e groups now keeps)
+plain_keeps e groups now (Err (build.G2 name)) = tt
+plain_keeps e groups now (Err build.NoMemory) = tt
+plain_keeps e groups now (Ok keeps) = (refl, refl)
+
+plain_number : (b : Bool) (plan : Result CheckPlan CheckFault) → HasPlainCheck plan → HasPlainCheck (if b then Err (check.G2 []) else plan)
+plain_number true plan h = tt
+plain_number false plan h = h
+
+plain_triggered : (e : Standing) (now : ℤ) (groups : List ℕ) → HasPlainCheck (over_triggered e now groups)
+plain_triggered e now [] = (refl, refl)
+plain_triggered e now (g ∷ groups) =
+    let keeps = kept_anew e.model (g ∷ groups) (rows_of_each e.state.tables) e.keeps in
+    plain_number (nat_lt 9223372036854775807 (e.state.number + 1)) (over_keeps e (g ∷ groups) now keeps) (plain_keeps e (g ∷ groups) now keeps)
+
+plain_checker : (b : Bool) (user : List ℕ) (plan : Result CheckPlan CheckFault) → HasPlainCheck plan → HasPlainCheck (if b then plan else Err (check.G1 user))
+plain_checker true user plan h = h
+plain_checker false user plan h = tt
+
+checked_plain : (e : Standing) (user : List ℕ) (now : ℤ) → HasPlainCheck (check_planned e user now)
+checked_plain e user now = plain_checker (is_loader e.users user) user (over_triggered e now (groups_triggered e now)) (plain_triggered e now (groups_triggered e now))
+
+-- the reply to a check is plain, unless the store failed
+check_plain : (e : Standing) (plan : Result CheckPlan CheckFault) (reply : Reply) (e' : Standing) (store store' : Store)
+    → HasPlainCheck plan → CheckDoes e plan reply e' store store' → IsPlain reply.status ⊎ IsUnsaved reply store store'
+check_plain e (Err fault) reply e' store store' plain does = inl (same_status reply (check_refusal fault) does.1 (check_status_is fault))
+check_plain e (Ok (Nothing unbuilt)) reply e' store store' plain does = inl (same_status reply unbuilt does.0 plain)
+check_plain e (Ok (new_check p)) reply e' store store' plain does = committed_plain e p reply e' store store' plain does
 
 -- ---- requests
 
@@ -141,7 +179,8 @@ pub target_plain : (e : Standing) (now : ℤ) (request : Request) (t : Target) (
 target_plain e now request (target.Query explore) reply e' store store' does = inl (queried_plain e request.user explore request.body now reply does.0)
 target_plain e now request (target.Load table replace id) reply e' store store' does =
     load_plain e (load_planned e (call_of request table replace id)) reply e' store store' (plan_plain e (call_of request table replace id)) does
-target_plain e now request target.Check reply e' store store' does = inl (check_plain (check_planned e request.user) e request.user reply refl does.0)
+target_plain e now request target.Check reply e' store store' does =
+    check_plain e (check_planned e request.user now) reply e' store store' (checked_plain e request.user now) does
 
 written : (reply : Reply) (store store' : Store) → IsPlain reply.status ⊎ IsUnsaved reply store store' → is_status reply.status ≡ true
 written reply store store' (inl plain) = plain.0

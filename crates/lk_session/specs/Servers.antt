@@ -5,7 +5,7 @@ use Rattle.lk_io.specs.Causes.{Rose}
 use Rattle.lk_io.specs.Moments.{later}
 use Rattle.lk_val.specs.Years.{IsMomentInYears}
 use Rattle.lk_types.specs.declared.answer.Reply.{Reply}
-use Rattle.lk_ledger.specs.Saving.{Save, after_saves, load}
+use Rattle.lk_ledger.specs.Saving.{Save, after_saves}
 use Rattle.lk_ledger.specs.declared.kept.Kept.{Kept}
 use Rattle.lk_ask.specs.Asks.{is_no_memory}
 use Rattle.lk_ask.specs.declared.fault.AskFault.{AskFault}
@@ -17,8 +17,11 @@ use Rattle.lk_edition.specs.Checks.{check_planned}
 use Rattle.lk_edition.specs.Checks as checks
 use Rattle.lk_edition.specs.Loads.{load_planned}
 use Rattle.lk_edition.specs.Loads as loads
+use Rattle.lk_edition.specs.Plans.{Planned}
 use Rattle.lk_edition.specs.Standings.{Standing}
 use Rattle.lk_edition.specs.declared.call.LoadCall.{LoadCall}
+use Rattle.lk_edition.specs.declared.plan.CheckPlan.{CheckPlan}
+use Rattle.lk_edition.specs.declared.plan.CheckPlan.TheVariants.{New as new_check, Nothing}
 use Rattle.lk_edition.specs.declared.plan.LoadPlan.{LoadPlan}
 use Rattle.lk_edition.specs.declared.plan.LoadPlan.TheVariants.{Kept as kept_plan, New}
 use Rattle.lk_http.specs.Items.{IsNext, Item, ends}
@@ -76,18 +79,26 @@ pub record IsQueried (e : Standing) (user explore body : List ℕ) (now : ℤ) (
   pub is : IsAnswered e user explore body now false told
   pub tells : Tells told reply
 
--- an accepted load moves to the edition of its plan and is saved, or the store failed (K1) and nothing is changed
+-- the edition is that of the plan, which is saved, or the store failed (K1) and nothing is changed
+abbrev pub IsCommitted : Standing → Planned → Reply → Standing → Store → Store → Type 0
+IsCommitted e p reply e' store store' =
+    ((reply ≡ p.reply) × (e' ≡ p.standing) × Saves (p.save ∷ []) store store')
+    ⊎ ((reply ≡ unsaved_reply) × Stays e e' store store' × Rose store.faults store'.faults)
+
+-- an accepted load moves to the edition of its plan and is saved, or the store failed; a kept one changes nothing
 abbrev pub LoadDoes : Standing → Result LoadPlan LoadFault → Reply → Standing → Store → Store → Type 0
 LoadDoes e (Err fault) reply e' store store' =
     (loads.is_no_memory fault ≡ false) × (reply ≡ load_refusal fault) × Stays e e' store store'
 LoadDoes e (Ok (kept_plan kept)) reply e' store store' = (reply ≡ kept) × Stays e e' store store'
 LoadDoes e (Ok (New p)) reply e' store store' =
-    ((reply ≡ p.reply) × (e' ≡ p.standing) × Saves (load p.command ∷ []) store store')
-    ⊎ ((reply ≡ unsaved_reply) × Stays e e' store store' × Rose store.faults store'.faults)
+    IsCommitted e p reply e' store store'
 
-abbrev pub ChecksTo : Result Reply CheckFault → Reply → Type 0
-ChecksTo (Err fault) reply = (checks.is_no_memory fault ≡ false) × (reply ≡ check_refusal fault)
-ChecksTo (Ok unbuilt) reply = reply ≡ unbuilt
+-- a check that builds moves to the edition of its plan and is saved, or the store failed; where nothing triggers nothing is changed
+abbrev pub CheckDoes : Standing → Result CheckPlan CheckFault → Reply → Standing → Store → Store → Type 0
+CheckDoes e (Err fault) reply e' store store' =
+    (checks.is_no_memory fault ≡ false) × (reply ≡ check_refusal fault) × Stays e e' store store'
+CheckDoes e (Ok (Nothing unbuilt)) reply e' store store' = (reply ≡ unbuilt) × Stays e e' store store'
+CheckDoes e (Ok (new_check p)) reply e' store store' = IsCommitted e p reply e' store store'
 
 abbrev pub call_of : Request → List ℕ → Bool → List ℕ → LoadCall
 call_of request table replace id =
@@ -99,7 +110,7 @@ TargetDoes e now request (target.Query explore) reply e' store store' =
 TargetDoes e now request (target.Load table replace id) reply e' store store' =
     LoadDoes e (load_planned e (call_of request table replace id)) reply e' store store'
 TargetDoes e now request target.Check reply e' store store' =
-    ChecksTo (check_planned e request.user) reply × Stays e e' store store'
+    CheckDoes e (check_planned e request.user now) reply e' store store'
 
 -- what a request at a moment does
 abbrev pub Serves : Standing → ℤ → Request → Reply → Standing → Store → Store → Type 0

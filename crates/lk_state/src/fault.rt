@@ -4,8 +4,8 @@ use lk_table::BatchFault;
 use lk_val::{NoMemory, Text};
 use std::alloc::{AllocError, AllocFailed};
 
-/// Why a server does not open. Of several faults the first kept batch goes before the first seed, and that before the
-/// limits. (lookd)
+/// Why a server does not open. Of several faults the first kept batch goes before the first seed, that before the limits of the
+/// state, and these before builds that are too large. (lookd)
 #[derive(Drop)]
 pub enum OpenFault {
     /// The store's count of faults rose.
@@ -16,6 +16,8 @@ pub enum OpenFault {
     Seed(Text, BatchFault),
     /// The state is over a limit. (L6)
     Full,
+    /// The build of the name would have more than 1,000,000 cells. (G2)
+    Large(Text),
     /// Want of memory.
     NoMemory,
 }

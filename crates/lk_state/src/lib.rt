@@ -9,4 +9,4 @@ mod tables;
 pub use fault::OpenFault;
 pub use limits::is_over;
 pub use opening::{loads_of, tables_over};
-pub use tables::{compacted, load_into, set_table, share_tables, table_named};
+pub use tables::{compacted, load_into, set_table, table_named};

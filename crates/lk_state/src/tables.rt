@@ -96,14 +96,3 @@ fn set_item(mut tables: Vec<TableVersion>, place: usize, version: TableVersion) 
     }
     tables
 }
-
-/// The tables once more: their rows are shared and not copied. (lookd)
-pub fn share_tables(alloc: Global, tables: &[TableVersion]) -> Result<Items<TableVersion>, NoMemory>
-    ensures { IfOk result (λ shared. shared ≡ tables.now) }
-{
-    let mut shared = Items::new(alloc);
-    for table in tables {
-        shared.push(table.share(alloc)?)?;
-    }
-    Ok(shared)
-}

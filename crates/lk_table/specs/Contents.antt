@@ -15,6 +15,10 @@ pub record Content : Type 0 where
   pub key : Option ℕ
   pub rows : Rows
 
+-- the rows of each table
+abbrev pub rows_of_each : List Content → List Rows
+rows_of_each tables = map (λ table. table.rows) tables
+
 -- ---- rows and cells
 
 abbrev pub row_at : Rows → ℕ → Cells

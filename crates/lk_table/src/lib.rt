@@ -30,6 +30,6 @@ pub use fault::BatchFault;
 pub use laws::batch_texts_read_back;
 pub use lk_val::ValueRef as CellRef;
 pub use load::{apply, compact};
-pub use set::{DerivedRows, RowsRef, StoredTables, TableSet};
+pub use set::{DerivedRows, RowsRef, StoredTables, TableSet, share_tables};
 pub use text::batch_text;
 pub use version::{TableRows, TableVersion, rows, size};

@@ -1,6 +1,6 @@
 // Tables by number, as a query sees them.
 
-ghost use Rattle.std.specs.Prelude.{◌≡◌, [], IfOk, length, map, slice_index_or};
+ghost use Rattle.std.specs.Prelude.{◌≡◌, ◌<◌, [], IfOk, length, map, slice_index_or, slice_set};
 ghost use Rattle.lk_val.specs.ValueRefs.{value_of_ref};
 ghost use Rattle.lk_table.specs.Contents.{cell_at, row_at};
 ghost use Rattle.lk_table.specs.RowRefs.{rows_of_ref};
@@ -45,7 +45,7 @@ impl StoredTables {
     }
 }
 
-/// The rows of a derived table, which all sets of tables that have them share. Clauses see the rows.
+/// The rows of a derived table, which sets of tables can share. Clauses see the rows.
 #[derive(Drop)]
 pub struct DerivedRows {
     rows: Arc<Items<Items<Value>>>,
@@ -61,7 +61,7 @@ impl Model for DerivedRows {
 }
 
 impl DerivedRows {
-    /// These rows, each with a cell for each column.
+    /// These rows.
     pub fn new(alloc: Global, rows: Items<Items<Value>>) -> Result<DerivedRows, NoMemory>
         ensures { IfOk result (λ derived. derived ≡ rows) }
     {
@@ -110,6 +110,20 @@ impl TableSet {
         TableSet { stored, derived }
     }
 
+    /// The set with these rows in place of those of the derived table of a number, which is one of its tables.
+    pub fn with_derived(self, number: u32, rows: DerivedRows) -> TableSet
+        requires { number < length self.derived }
+        ensures { result ≡ record { stored = self.stored; derived = slice_set self.derived number rows } }
+    {
+        let TableSet { stored, derived } = self;
+        let mut all = derived.into_vec();
+        all[number as usize] = rows;
+        TableSet {
+            stored,
+            derived: Items::from_vec(all),
+        }
+    }
+
     /// The rows of the stored table of a number; none past the last.
     pub fn stored(&self, number: u32) -> RowsRef<'_>
         ensures { rows_of_ref result ≡ slice_index_or self.now.stored number [] }
@@ -124,6 +138,16 @@ impl TableSet {
         match self.derived.as_slice().get(number as usize) {
             Some(rows) => RowsRef::List(rows.as_slice()),
             None => RowsRef::List(&[]),
+        }
+    }
+
+    /// The rows of the derived table of a number once more, shared; none past the last.
+    pub fn share_derived(&self, alloc: Global, number: u32) -> Result<DerivedRows, NoMemory>
+        ensures { IfOk result (λ rows. rows ≡ slice_index_or self.now.derived number []) }
+    {
+        match self.derived.as_slice().get(number as usize) {
+            Some(rows) => rows.share(),
+            None => DerivedRows::new(alloc, Items::new(alloc)),
         }
     }
 }
@@ -238,4 +262,15 @@ fn copy_values(alloc: Global, cells: &[Value]) -> Result<Items<Value>, NoMemory>
         copied.push(cell.copy(alloc)?)?;
     }
     Ok(copied)
+}
+
+/// The tables once more: their rows are shared and not copied. (lookd)
+pub fn share_tables(alloc: Global, tables: &[TableVersion]) -> Result<Items<TableVersion>, NoMemory>
+    ensures { IfOk result (λ shared. shared ≡ tables.now) }
+{
+    let mut shared = Items::new(alloc);
+    for table in tables {
+        shared.push(table.share(alloc)?)?;
+    }
+    Ok(shared)
 }

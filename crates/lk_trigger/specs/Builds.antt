@@ -10,12 +10,7 @@ use Rattle.lk_types.specs.declared.model.Trigger.{Trigger}
 use Rattle.lk_types.specs.declared.model.Trigger.TheVariants as trigger
 use Rattle.lk_semantics.specs.Joins.{numbers_below}
 use Rattle.lk_semantics.specs.Measures.{greatest_of}
-use Rattle.lk_table.specs.Contents.{Content}
 use Rattle.lk_trigger.specs.declared.build.Build.{Build}
-
--- the rows of each table
-abbrev pub rows_of_each : List Content → List Rows
-rows_of_each tables = map (λ table. table.rows) tables
 
 -- ---- what a datagroup watches
 

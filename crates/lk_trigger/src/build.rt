@@ -1,6 +1,7 @@
 ghost use Rattle.std.specs.Prelude.{◌≡◌, IfOk};
 ghost use Rattle.lk_val.specs.Years.{IsMomentInYears};
-ghost use Rattle.lk_trigger.specs.Builds.{built_at, rows_of_each};
+ghost use Rattle.lk_table.specs.Contents.{rows_of_each};
+ghost use Rattle.lk_trigger.specs.Builds.{built_at};
 
 use crate::watch::trigger_value;
 use lk_table::TableVersion;

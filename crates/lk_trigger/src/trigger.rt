@@ -1,6 +1,7 @@
 ghost use Rattle.std.specs.Prelude.{◌≡◌, ◌++◌, ◌∷◌, [], IfOk, OnOk, if◌then◌else◌, length};
 ghost use Rattle.lk_val.specs.Years.{IsMomentInYears};
-ghost use Rattle.lk_trigger.specs.Builds.{does_trigger, has_changed, has_passed, rows_of_each, trigger_value, triggered};
+ghost use Rattle.lk_table.specs.Contents.{rows_of_each};
+ghost use Rattle.lk_trigger.specs.Builds.{does_trigger, has_changed, has_passed, trigger_value, triggered};
 
 use crate::build::Build;
 use crate::watch::watched;

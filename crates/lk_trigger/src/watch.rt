@@ -6,7 +6,8 @@ ghost use Rattle.lk_val.specs.Years.{IsMomentInYears};
 ghost use Rattle.lk_types.specs.Calendar.{day_of_moment};
 ghost use Rattle.lk_types.specs.Tables.{column_values};
 ghost use Rattle.lk_semantics.specs.Measures.{greatest_of};
-ghost use Rattle.lk_trigger.specs.Builds.{rows_of_each, trigger_value, watched};
+ghost use Rattle.lk_table.specs.Contents.{rows_of_each};
+ghost use Rattle.lk_trigger.specs.Builds.{trigger_value, watched};
 
 use lk_table::{TableVersion, rows};
 use lk_types::{Trigger, day_of_moment};

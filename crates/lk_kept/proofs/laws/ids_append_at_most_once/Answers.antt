@@ -1,22 +1,22 @@
-use Rattle.lk_kept.proofs.IdLaws.{loads_leave}
+use Rattle.lk_kept.proofs.IdLaws.{steps_leave}
 use Rattle.lk_kept.proofs.laws.ids_append_at_most_once.Goals as goal
 
 pub returns-clause-new : goal.returns-clause-new
-returns-clause-new c = λ e calls commands last accepted. (loads_leave e calls commands last accepted).new
+returns-clause-new c = λ e steps saves last accepted. (steps_leave e steps saves last accepted).new
 
 pub returns-clause-once : goal.returns-clause-once
-returns-clause-once c = λ e calls commands last accepted. (loads_leave e calls commands last accepted).once
+returns-clause-once c = λ e steps saves last accepted. (steps_leave e steps saves last accepted).once
 
 pub returns-clause-ids : goal.returns-clause-ids
-returns-clause-ids c = λ e calls commands last accepted. (loads_leave e calls commands last accepted).ids
+returns-clause-ids c = λ e steps saves last accepted. (steps_leave e steps saves last accepted).ids
 
 pub returns-clause-kept : goal.returns-clause-kept
-returns-clause-kept c = λ e calls commands last accepted. (loads_leave e calls commands last accepted).kept
+returns-clause-kept c = λ e steps saves last accepted. (steps_leave e steps saves last accepted).kept
 
 pub returns-clause-number : goal.returns-clause-number
-returns-clause-number c = λ e calls commands last accepted. (loads_leave e calls commands last accepted).number
+returns-clause-number c = λ e steps saves last accepted. (steps_leave e steps saves last accepted).number
 
 pub returns-clause-same : goal.returns-clause-same
-returns-clause-same c = λ e calls commands last accepted.
-    let leave = loads_leave e calls commands last accepted in
+returns-clause-same c = λ e steps saves last accepted.
+    let leave = steps_leave e steps saves last accepted in
     (leave.model, leave.users)

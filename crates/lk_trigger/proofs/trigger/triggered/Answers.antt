@@ -1,6 +1,7 @@
 use Rattle.std.proofs.Common.{◌≡◌, ◌<◌, ◌∙◌, ℕ, Bool, arith, length, of_z, to_z, w64}
 use Rattle.std.proofs.lemmas.List.{get_or_read}
-use Rattle.lk_trigger.specs.Builds.{build_at, datagroup_at, does_trigger, no_build, no_datagroup, rows_of_each}
+use Rattle.lk_table.specs.Contents.{rows_of_each}
+use Rattle.lk_trigger.specs.Builds.{build_at, datagroup_at, does_trigger, no_build, no_datagroup}
 use Rattle.lk_trigger.proofs.NumberLaws.{kept_next}
 use Rattle.lk_trigger.proofs.trigger.triggered.Goals as goal
 

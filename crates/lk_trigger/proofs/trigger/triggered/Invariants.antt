@@ -1,7 +1,8 @@
 use Rattle.std.proofs.Common.{◌≡◌}
 use Rattle.std.specs.Prelude.{filter}
 use Rattle.lk_semantics.specs.Joins.{numbers_below}
-use Rattle.lk_trigger.specs.Builds.{build_at, datagroup_at, does_trigger, rows_of_each}
+use Rattle.lk_table.specs.Contents.{rows_of_each}
+use Rattle.lk_trigger.specs.Builds.{build_at, datagroup_at, does_trigger}
 use Rattle.lk_trigger.proofs.trigger.triggered.Given as goal
 
 -- the datagroups that trigger, so far

@@ -1,0 +1,3 @@
+pub mod FillLaws
+pub mod NumberLaws
+pub mod OrderLaws
