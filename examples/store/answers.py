@@ -2,13 +2,16 @@
 """Works out the answers of queries/*.sql by SQLite, and writes each beside its query as queries/*.csv.
 
 It shares nothing with lookd: the tables are read from data/*.csv, numbers as counts of 1/10,000, and `number` and
-`fraction` print what lookd prints for a number and for the quotient of two whole numbers. Run it in its folder.
+`fraction` print what lookd prints for a number and for the quotient of two whole numbers. A derived table T is made of
+what queries/tables/T.sql selects, and `rounded` is a quotient in a column of it. Run it in its folder.
 """
 import csv
 import io
 import json
 import sqlite3
 from fractions import Fraction
+from math import floor
+from pathlib import Path
 
 KINDS = {"number": "INTEGER", "text": "TEXT", "day": "TEXT", "moment": "TEXT"}
 
@@ -22,6 +25,13 @@ def number(count):
 
 def fraction(above, below):
     return "" if above is None or not below else str(Fraction(above, below))
+
+
+def rounded(above, below):
+    if above is None or not below:
+        return None
+    nearest = floor(Fraction(abs(above), below) + Fraction(1, 2))
+    return nearest if above >= 0 else -nearest
 
 
 def cell(kind, text):
@@ -42,6 +52,11 @@ def load(store):
             store.execute(f"INSERT INTO {table} VALUES ({', '.join('?' * len(cells))})", cells)
 
 
+def derive(store):
+    for path in sorted(Path("queries/tables").glob("*.sql")):
+        store.execute(f"CREATE TABLE {path.stem} AS {path.read_text()}")
+
+
 def answer(store, name):
     query = json.load(open(f"queries/{name}.json"))
     rows = store.execute(open(f"queries/{name}.sql").read()).fetchall()
@@ -58,7 +73,9 @@ def main():
     store = sqlite3.connect(":memory:")
     store.create_function("number", 1, number)
     store.create_function("fraction", 2, fraction)
+    store.create_function("rounded", 2, rounded)
     load(store)
+    derive(store)
     for line in open("queries/list"):
         name = line.split()[0]
         open(f"queries/{name}.csv", "w").write(answer(store, name))

@@ -1,27 +1,20 @@
 -- The answer of a plan is what its query is told.
-use Rattle.std.proofs.Common.{◌≡◌, ◌∙◌, ◌<◌, ◌≤◌, ℕ, ℤ, Bool, true, false, List, length, refl, sym, ap, subst, arith}
-use Rattle.std.specs.Prelude.{Some, nat_lt, Ok, Err, Result, if◌then◌else◌}
-use Rattle.lk_val.specs.Memory.{IsUnlessMemory, Unless, UnlessMemory}
+use Rattle.std.proofs.Common.{◌≡◌, ◌∙◌, ◌<◌, ◌≤◌, ℕ, ℤ, true, false, List, length, refl, sym, ap, arith}
+use Rattle.std.specs.Prelude.{Some, nat_lt, Err, if◌then◌else◌}
 use Rattle.lk_types.specs.declared.answer.Answer.{Answer}
 use Rattle.lk_types.specs.declared.answer.Answer.TheVariants as answer
 use Rattle.lk_types.specs.declared.bound.Bound.{Bound}
 use Rattle.lk_types.specs.declared.explore.Explore.{Explore}
 use Rattle.lk_types.specs.declared.explore.Measure.{Measure}
-use Rattle.lk_types.specs.declared.model.Model.{Model}
 use Rattle.lk_types.specs.declared.rows.Joined.{Joined}
 use Rattle.lk_types.specs.declared.rows.Sources.{Sources}
 use Rattle.lk_semantics.specs.Answers.{answer_of}
-use Rattle.lk_semantics.specs.Derived.{explore_at}
 use Rattle.lk_semantics.specs.Rows.{visible_rows}
 use Rattle.lk_exec.specs.Places.{place_after}
 use Rattle.lk_exec.specs.Visits.{IsOver, IsWithin}
-use Rattle.lk_filter.specs.PlacedModel.{placed_explore, placed_model}
+use Rattle.lk_filter.specs.PlacedModel.{placed_explore}
 use Rattle.lk_placed_laws.proofs.PlacedLaws.{measure_is}
-use Rattle.lk_query.specs.Bindings.{IsBodyBound}
-use Rattle.lk_schema.specs.declared.users.Users.{Users}
-use Rattle.lk_ask.specs.Asks.{IsAsked, is_no_memory, told_by, told_over}
-use Rattle.lk_ask.specs.declared.fault.AskFault.{AskFault}
-use Rattle.lk_ask.specs.declared.told.Told.{Told}
+use Rattle.lk_ask.specs.Asks.{told_by, told_over}
 use Rattle.lk_ask.specs.declared.fault.AskFault.TheVariants as fault
 
 not_more : (most n : ℕ) → n ≤ most → nat_lt most n ≡ false
@@ -60,21 +53,3 @@ many_is x s b other same over =
     let many : nat_lt 1000000 (length (visible_rows x s b)) ≡ true =
     ap (λ c. nat_lt 1000000 (length (visible_rows x s c))) (sym same) ∙ more 1000000 (length (visible_rows x s other)) over in
     sym (ap (λ c. if c then Err fault.Q10 else told_by x b (length (visible_rows x s b)) (answer_of x s b)) many)
-
-implied : (lost : Bool) (P Q : Type 0) → (P → Q) → Unless lost P → Unless lost Q
-implied true P Q step h = h
-implied false P Q step h = step h
-
--- what a query that a body binds to at a moment is told then
-pub asked_is : (m : Model) (users : Users) (s : Sources) (user explore body : List ℕ) (at now : ℤ) (b : Bound) (result : Result Told AskFault) → at ≡ now
-    → IsBodyBound m users user explore body at (Ok b) → IsUnlessMemory is_no_memory result (told_over (explore_at (placed_model at m) b.explore) s b)
-    → UnlessMemory is_no_memory result (IsAsked m users s user explore body now)
-asked_is m users s user explore body at now b result same bound told = by_case result told
-  where
-    asked : (r : Result Told AskFault) → r ≡ told_over (explore_at (placed_model at m) b.explore) s b → IsAsked m users s user explore body now r
-    asked r is = subst (λ n. IsAsked m users s user explore body n r) same (record { bound = Ok b; is_bound = bound; is = is })
-
-    by_case : (r : Result Told AskFault) → IsUnlessMemory is_no_memory r (told_over (explore_at (placed_model at m) b.explore) s b)
-        → UnlessMemory is_no_memory r (IsAsked m users s user explore body now)
-    by_case (Ok told) is = asked (Ok told) is
-    by_case (Err fault) is = implied (is_no_memory fault) _ _ (asked (Err fault)) is

@@ -1,6 +1,5 @@
 ghost use Rattle.std.specs.Prelude.{◌≡◌, ◌+◌, Err, IfOk, length, nat_lt, true};
-ghost use Rattle.lk_val.specs.Memory.{IsUnlessMemory, UnlessMemory};
-ghost use Rattle.lk_val.specs.Years.{IsMomentInYears};
+ghost use Rattle.lk_val.specs.Memory.{IsUnlessMemory};
 ghost use Rattle.lk_semantics.specs.Answers.{measure_at};
 ghost use Rattle.lk_semantics.specs.DatedRows.{are_joins_dated, are_sources_dated};
 ghost use Rattle.lk_semantics.specs.Derived.{explore_at};
@@ -9,18 +8,16 @@ ghost use Rattle.lk_derived.specs.ReadRows.{HasRowsFor};
 ghost use Rattle.lk_filter.specs.PlacedModel.{placed_explore, placed_model};
 ghost use Rattle.lk_gather.specs.Asked.{IsPlan};
 ghost use Rattle.lk_gather.specs.Measures.{is_fine_explore};
-ghost use Rattle.lk_ask.specs.Asks.{HasTables, IsAsked, is_no_memory, told_by, told_over};
+ghost use Rattle.lk_ask.specs.Asks.{is_no_memory, told_by, told_over};
 ghost use Rattle.lk_ask.specs.Counts.{IsCounted};
 ghost use Rattle.lk_ask.specs.declared.fault.AskFault.TheVariants as fault;
 
-use crate::fault::{AskFault, refused};
+use crate::fault::AskFault;
 use crate::told::Told;
-use lk_derived::{rows_read_are_dated, whole_tables_have_rows};
+use lk_derived::rows_read_are_dated;
 use lk_exec::ExecFault;
 use lk_gather::{Counted, answer, resolved_explores_are_fine};
 use lk_plan::{compile, conditions_are_dated, joined_rows_meet_conditions};
-use lk_query::{bind_body, bound_queries_are_in_their_model, resolved_models_have_few_joins};
-use lk_schema::Users;
 use lk_table::TableSet;
 use lk_types::{Answer, Bound, Explore, Model, Plan};
 use lk_val::{NoMemory, Text, Value};
@@ -29,39 +26,10 @@ use std::alloc::Global;
 // The most visible rows that a query goes over.
 const MOST_ROWS: u64 = 1_000_000;
 
-/// What a caller's body over an explore is told over the tables of a resolved model, or its first refusal: those of its
-/// binding (Q2, Q1, Q3, Q8, Q4, Q5, Q6, Q7), then more than 1,000,000 visible rows (Q10), then two values of a measure
-/// for one key (Q9). `now` counts seconds from 1970-01-01 00:00:00 UTC: relative dates stand for the days that they name
-/// then, those of the query's own filters and those of the model's. `sources` are the stored tables with the rows of the
-/// derived ones. (lookd)
-pub fn ask(
-    alloc: Global,
-    m: &Model,
-    users: &Users,
-    sources: &TableSet,
-    user: &Text,
-    explore: &Text,
-    body: &[u8],
-    now: i64,
-) -> Result<Told, AskFault>
-    requires model { IsResolved m.now }
-    requires moment { IsMomentInYears now }
-    requires tables { HasTables m.now sources.now }
-    ensures { UnlessMemory is_no_memory result (IsAsked m.now users.now sources.now user.now explore.now body.now now) }
-{
-    resolved_models_have_few_joins();
-    whole_tables_have_rows();
-    match bind_body(alloc, m, users, user, explore, body, now) {
-        Err(fault) => Err(refused(fault)),
-        Ok(bound) => {
-            bound_queries_are_in_their_model();
-            answer_bound(alloc, m, sources, bound, now)
-        }
-    }
-}
-
-/// What a query of a resolved model is told over tables that have the rows which it reads: Q10 and Q9 are the refusals that
-/// are left. `now` is the moment for the relative dates in the filters of its measures. (lookd)
+/// What a query of a resolved model is told over tables that have the rows which it reads, or its first refusal: more than
+/// 1,000,000 visible rows (Q10), then two values of a measure for one key (Q9). `now` counts seconds from 1970-01-01 00:00:00 UTC:
+/// relative dates in the filters of its measures stand for the days that they name then. `sources` are the stored tables with the
+/// rows of derived ones. (lookd)
 pub fn answer_bound(
     alloc: Global,
     m: &Model,

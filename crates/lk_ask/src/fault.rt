@@ -44,7 +44,7 @@ impl From<NoMemory> for AskFault {
 }
 
 /// The refusal of a query that means nothing.
-pub(crate) fn refused(fault: QueryFault) -> AskFault
+pub fn refused(fault: QueryFault) -> AskFault
     ensures { result ≡ refused fault }
 {
     match fault {

@@ -1,4 +1,4 @@
-//! A caller's query over the tables of a resolved model: its answer, or its first refusal.
+//! A query over the tables of a resolved model: its answer, or its first refusal.
 #![tactic(auto)]
 
 mod asking;
@@ -6,10 +6,10 @@ mod fault;
 mod laws;
 mod told;
 
-pub use asking::{answer_bound, ask};
-pub use fault::AskFault;
+pub use asking::answer_bound;
+pub use fault::{AskFault, refused};
 pub use laws::{
-    bodies_are_told_one_thing, rows_depend_on_no_moment, rows_read_decide_what_is_told,
-    told_queries_are_in_their_model, visible_rows_decide_what_is_told,
+    rows_depend_on_no_moment, rows_read_decide_what_is_told, told_queries_are_those_asked,
+    visible_rows_decide_what_is_told,
 };
 pub use told::Told;

@@ -17,7 +17,7 @@ use Rattle.lk_types.specs.declared.model.Model.{Model}
 use Rattle.lk_types.specs.declared.schema.TableDef.{TableDef}
 use Rattle.lk_semantics.specs.Derived.{explore_at, no_explore}
 use Rattle.lk_semantics.specs.Joins.{numbers_below}
-use Rattle.lk_semantics.specs.Resolved.{IsResolved, is_none_or_below, is_numbered_datagroup, is_numbered_derived, is_numbered_explore, is_numbered_rollup}
+use Rattle.lk_semantics.specs.Resolved.{IsResolved, is_none_or_below}
 use Rattle.lk_semantics.specs.Rollups.{derived_at, no_derived, no_rollup, partials_of, rollup_at}
 use Rattle.lk_semantics.proofs.EveryLaws.{both, every-append, every-at, every-filter, every-map, first, second}
 use Rattle.lk_schema.specs.declared.users.Users.{Users}
@@ -27,10 +27,12 @@ use Rattle.lk_table.specs.declared.fault.BatchFault.{BatchFault}
 use Rattle.lk_load.specs.Loading.{IsTable, LoadedTable, table_loaded}
 use Rattle.lk_trigger.specs.Builds.{build_at, built_at, datagroup_at, does_trigger, no_build, no_datagroup}
 use Rattle.lk_trigger.specs.declared.build.Build.{Build}
+use Rattle.lk_fill.proofs.NumberedLaws.{map_numbered}
 use Rattle.lk_keeps.specs.Anew.{keeps_anew, unless_large}
 use Rattle.lk_keeps.specs.Keeps.{Keeps, keeps_of, persisted_rows, persists, sources_over}
 use Rattle.lk_keeps.specs.Large.{large_builds}
-use Rattle.lk_keeps.proofs.ListLaws.{at_below, length_below, map_below, map_numbered, of_test, passes_at}
+use Rattle.lk_keeps.proofs.AnewLaws.{derived_group, rollup_group}
+use Rattle.lk_keeps.proofs.ListLaws.{at_below, length_below, map_below, of_test, passes_at}
 use Rattle.lk_ledger.specs.declared.kept.Chunk.{Chunk}
 use Rattle.lk_ledger.specs.declared.kept.Kept.{Kept}
 use Rattle.lk_state.specs.Limits.{is_over}
@@ -203,6 +205,7 @@ module _ (loads : (def : TableDef) (rows : Rows) (text : List ℕ) (replace : Bo
 
     load_stands : Stands after_load (states_of e past)
     load_stands = record {
+      resolved = is.resolved;
       numbers = (refl, is.numbers);
       states = All-cons (IsState e.model) after_load.state (states_of e past) state_loaded is.states;
       each = is.each;
@@ -300,27 +303,6 @@ state_opened m kept seeds state loads nothing within e =
 -- ---- what is kept of a resolved model is made of the builds of its datagroups alone
 
 module _ (m : Model) (resolved : IsResolved m) where
-  explores_numbered : list_all (is_numbered_explore m) m.explores ≡ true
-  explores_numbered =
-      second (list_all (λ t. is_none_or_below (length t.columns) t.key) m.schema.tables) (list_all (is_numbered_explore m) m.explores)
-      (first _ (list_all (is_numbered_derived m) m.derived) (first _ (list_all (is_numbered_datagroup m) m.datagroups) resolved.numbered))
-
-  derived_numbered : list_all (is_numbered_derived m) m.derived ≡ true
-  derived_numbered =
-      second (list_all (λ t. is_none_or_below (length t.columns) t.key) m.schema.tables && list_all (is_numbered_explore m) m.explores)
-      (list_all (is_numbered_derived m) m.derived) (first _ (list_all (is_numbered_datagroup m) m.datagroups) resolved.numbered)
-
-  rollup_group : (n i : ℕ) → n < length m.explores → i < length (explore_at m n).rollups → (rollup_at (explore_at m n) i).datagroup < length m.datagroups
-  rollup_group n i explore rollup =
-      let x = explore_at m n in
-      let r = rollup_at x i in
-      let rollups = second _ (list_all (is_numbered_rollup m x) x.rollups) (passes_at (is_numbered_explore m) m.explores n no_explore explores_numbered explore) in
-      of_test r.datagroup (length m.datagroups) (second _ (nat_lt r.datagroup (length m.datagroups)) (passes_at (is_numbered_rollup m x) x.rollups i no_rollup rollups rollup))
-
-  derived_group : (d : ℕ) → d < length m.derived → is_none_or_below (length m.datagroups) (derived_at m d).datagroup ≡ true
-  derived_group d there =
-      second _ (is_none_or_below (length m.datagroups) (derived_at m d).datagroup) (passes_at (is_numbered_derived m) m.derived d no_derived derived_numbered there)
-
   module _ (some other : ℕ → List Rows) (agree : (g : ℕ) → g < length m.datagroups → some g ≡ other g) where
     abbrev kept_tables : (ℕ → List Rows) → ℕ → List Rows
     kept_tables of g = if persists m g then of g else []
@@ -332,7 +314,7 @@ module _ (m : Model) (resolved : IsResolved m) where
         map_each (λ (r : Rollup). partials_of (explore_at m n) (sources_over m (some r.datagroup)) r)
         (λ (r : Rollup). partials_of (explore_at m n) (sources_over m (other r.datagroup)) r) (explore_at m n).rollups no_rollup
         (λ i rollup. ap (λ stored. partials_of (explore_at m n) (sources_over m stored) (rollup_at (explore_at m n) i))
-        (agree (rollup_at (explore_at m n) i).datagroup (rollup_group n i explore rollup)))
+        (agree (rollup_at (explore_at m n) i).datagroup (rollup_group m resolved n i explore rollup)))
 
     persisted_agree : (d : ℕ) (group : Option ℕ) → is_none_or_below (length m.datagroups) group ≡ true → persisted_rows m some d group ≡ persisted_rows m other d group
     persisted_agree d None below = refl
@@ -345,7 +327,7 @@ module _ (m : Model) (resolved : IsResolved m) where
       rollups = map_each (λ (x : Explore). map (λ (r : Rollup). partials_of x (sources_over m (some r.datagroup)) r) x.rollups)
           (λ (x : Explore). map (λ (r : Rollup). partials_of x (sources_over m (other r.datagroup)) r) x.rollups) m.explores no_explore rollups_agree i;
       derived = map_numbered (λ (d : ℕ × Derived). persisted_rows m some d.0 d.1.datagroup) (λ (d : ℕ × Derived). persisted_rows m other d.0 d.1.datagroup)
-          m.derived no_derived (λ d there. persisted_agree d (derived_at m d).datagroup (derived_group d there)) i;
+          m.derived no_derived (λ d there. persisted_agree d (derived_at m d).datagroup (derived_group m resolved d there)) i;
     }
 
 -- the edition over a state at which all datagroups are built
@@ -370,6 +352,7 @@ module _ (model : Model) (users : Users) (state : State) (now : ℤ) where
 
   opening_stands : IsResolved model → IsState model state → Stands opening []
   opening_stands resolved is = record {
+    resolved = resolved;
     numbers = tt;
     states = All-cons (IsState model) state [] is (All-nil (IsState model));
     each = length-map model.datagroups built_once;
@@ -477,6 +460,7 @@ module _ (e : Standing) (past : List State) (is : Stands e past) (groups : List 
   check_stands within kept law =
       let here = present e past is after_check refl in
       record {
+        resolved = is.resolved;
         numbers = (refl, is.numbers);
         states = All-cons (IsState e.model) after_check.state (states_of e past)
             (record { tables = here.tables; small = small_next e.state here.small (ltb-false 9223372036854775807 (e.state.number + 1) within) }) is.states;

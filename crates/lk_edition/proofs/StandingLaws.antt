@@ -14,7 +14,7 @@ use Rattle.lk_table.specs.Contents.{rows_of_each}
 use Rattle.lk_trigger.specs.Builds.{build_at, built_at, datagroup_at, no_build, no_datagroup}
 use Rattle.lk_trigger.specs.declared.build.Build.{Build}
 use Rattle.lk_keeps.specs.Anew.{keeps_anew, kept_anew, unless_large}
-use Rattle.lk_keeps.specs.Keeps.{Keeps, keeps_of, sources_over}
+use Rattle.lk_keeps.specs.Keeps.{AreKept, Keeps, keeps_of, sources_over}
 use Rattle.lk_keeps.specs.Large.{large_builds}
 use Rattle.lk_keeps.proofs.ListLaws.{at_below, length_below}
 use Rattle.lk_ledger.specs.Saving.{check}
@@ -25,7 +25,7 @@ use Rattle.lk_state.specs.States.{State}
 use Rattle.lk_edition.specs.Checks.{built, check_planned, checked, groups_triggered, names_of, over_keeps, over_triggered, rebuilt, state_checked}
 use Rattle.lk_edition.specs.Loads.{is_loader}
 use Rattle.lk_edition.specs.Plans.{Planned}
-use Rattle.lk_edition.specs.Standings.{AreKept, IsStanding, Standing}
+use Rattle.lk_edition.specs.Standings.{IsStanding, Standing}
 
 -- ---- numbers of states
 
@@ -81,7 +81,7 @@ module _ (e : Standing) (is : IsStanding e) (groups : List ℕ) (now : ℤ) (yea
   -- the edition after a check that built some datagroups
   pub checked_stands : (keeps : Keeps) → e.state.number + 1 ≤ 9223372036854775807 → AreKept e.model keeps → IsStanding (checked e groups now keeps)
   checked_stands keeps next kept = record {
-    answerable = is.answerable;
+    model = is.model;
     tables = is.tables;
     small = small_next e.state is.small next;
     each = rebuilt_long;

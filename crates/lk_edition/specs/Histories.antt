@@ -3,6 +3,7 @@ use Rattle.std.specs.Prelude.{◌≡◌, ℕ, ◌+◌, nat_eq, Bool, true, false
 use Rattle.std.specs.List.{All, list_all, list_any}
 use Rattle.lk_types.specs.Tables.{Rows}
 use Rattle.lk_types.specs.declared.model.Model.{Model}
+use Rattle.lk_semantics.specs.Resolved.{IsResolved}
 use Rattle.lk_table.specs.Contents.{rows_of_each}
 use Rattle.lk_trigger.specs.Builds.{build_at}
 use Rattle.lk_trigger.specs.declared.build.Build.{Build}
@@ -42,8 +43,9 @@ is_built_at states build = list_any (λ s. nat_eq s.number build.number) states
 abbrev pub tables_built : Standing → List State → ℕ → List Rows
 tables_built e past g = rows_of_each (numbered (states_of e past) (build_at e.builds g).number).tables
 
--- the edition is that of a history: each datagroup has a build, which was at one of its states, and what is kept is what that state's tables give
+-- the edition of a resolved model is that of a history: each datagroup has a build, which was at one of its states, and what is kept is what that state's tables give
 pub record Stands (e : Standing) (past : List State) : Type 0 where
+  pub resolved : IsResolved e.model
   pub numbers : AreConsecutive (states_of e past)
   pub states : All (IsState e.model) (states_of e past)
   pub each : length e.builds ≡ length e.model.datagroups

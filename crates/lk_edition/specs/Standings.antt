@@ -1,13 +1,12 @@
 -- An edition of the server, and what always holds of it. (lookd)
-use Rattle.std.specs.Prelude.{◌≡◌, ℕ, true, false, List, [], length}
+use Rattle.std.specs.Prelude.{◌≡◌, false, List, length}
 use Rattle.std.specs.List.{All}
 use Rattle.lk_val.specs.Years.{IsMomentInYears}
-use Rattle.lk_types.specs.Tables.{Rows, are_valid_tables}
 use Rattle.lk_types.specs.declared.model.Model.{Model}
 use Rattle.lk_semantics.specs.Resolved.{IsResolved}
 use Rattle.lk_schema.specs.declared.users.Users.{Users}
 use Rattle.lk_trigger.specs.declared.build.Build.{Build}
-use Rattle.lk_keeps.specs.Keeps.{Keeps, keeps_of}
+use Rattle.lk_keeps.specs.Keeps.{AreKept, Keeps}
 use Rattle.lk_state.specs.Limits.{is_over}
 use Rattle.lk_state.specs.States.{AreTables, State}
 
@@ -19,20 +18,9 @@ pub record Standing : Type 0 where
   pub builds : List Build
   pub keeps : Keeps
 
--- queries are answered over a resolved model all of whose tables are stored
-pub record IsAnswerable (m : Model) : Type 0 where
-  pub stored : m.derived ≡ []
-  pub resolved : IsResolved m
-
--- what is kept is that of builds over some valid tables, for each datagroup
-pub record AreKept (m : Model) (keeps : Keeps) : Type 0 where
-  pub built : ℕ → List Rows
-  pub valid : (g : ℕ) → are_valid_tables m.schema.tables (built g) ≡ true
-  pub is : keeps ≡ keeps_of m built
-
 -- what always holds of an edition
 pub record IsStanding (e : Standing) : Type 0 where
-  pub answerable : IsAnswerable e.model
+  pub model : IsResolved e.model
   pub tables : AreTables e.model.schema.tables e.state.tables
   pub small : is_over e.state ≡ false
   pub each : length e.builds ≡ length e.model.datagroups

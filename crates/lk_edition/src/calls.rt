@@ -2,6 +2,7 @@ ghost use Rattle.std.specs.Prelude.{◌≡◌, ◌≤◌, IfErr, IfOk, OnErr, On
 ghost use Rattle.std.specs.Arc.{arc_value};
 ghost use Rattle.lk_val.specs.Memory.{IsUnlessMemory, Unless};
 ghost use Rattle.lk_val.specs.Years.{IsMomentInYears};
+ghost use Rattle.lk_semantics.specs.Resolved.{IsResolved};
 ghost use Rattle.lk_ledger.specs.Causes.{HasKeepCause};
 ghost use Rattle.lk_ledger.specs.Saving.{told_after};
 ghost use Rattle.lk_state.specs.Openings.{AreSeeds, is_no_memory as is_without_memory};
@@ -10,7 +11,6 @@ ghost use Rattle.lk_edition.specs.Checks.{check_planned, is_no_memory as is_no_m
 ghost use Rattle.lk_edition.specs.Loads.{is_no_memory, load_planned};
 ghost use Rattle.lk_edition.specs.Offices.{Begins, HasOpenCause, IsOpening, IsPlanned, is_outside, standing_in};
 ghost use Rattle.lk_edition.specs.Openings.{standing_opened};
-ghost use Rattle.lk_edition.specs.Standings.{IsAnswerable};
 
 use crate::call::LoadCall;
 use crate::checking::plan_check;
@@ -40,7 +40,7 @@ impl<K: Keeper> Office<K> {
         seeds: &[(u32, Bytes)],
         now: i64,
     ) -> Result<Office<K>, Unopened<K>>
-        requires model { IsAnswerable model }
+        requires model { IsResolved model }
         requires seeds { AreSeeds model.schema.tables seeds.now }
         requires years { IsMomentInYears now }
         ensures opened { IfOk result (λ office. IsOpening model users (Begins (K.held keeper) (K.handed keeper)) seeds.now now
@@ -133,7 +133,7 @@ fn open_over<K: Keeper>(
     seeds: &[(u32, Bytes)],
     now: i64,
 ) -> Result<Office<K>, Unopened<K>>
-    requires model { IsAnswerable model }
+    requires model { IsResolved model }
     requires seeds { AreSeeds model.schema.tables seeds.now }
     requires years { IsMomentInYears now }
     ensures opened { IfOk result (λ office. standing_opened model users kept seeds.now now ≡ Ok (standing_in office)) }
@@ -157,7 +157,7 @@ fn share_opening(
     seeds: &[(u32, Bytes)],
     now: i64,
 ) -> Result<Arc<Edition>, OpenFault>
-    requires model { IsAnswerable model }
+    requires model { IsResolved model }
     requires seeds { AreSeeds model.schema.tables seeds.now }
     requires years { IsMomentInYears now }
     ensures ok { IfOk result (λ edition. standing_opened model users kept seeds.now now ≡ Ok (arc_value edition)) }

@@ -6,9 +6,9 @@ ghost use Rattle.lk_types.specs.Expressions.{has_number};
 ghost use Rattle.lk_table.specs.Contents.{rows_of_each};
 ghost use Rattle.lk_trigger.specs.Builds.{build_at, built_at, datagroup_at};
 ghost use Rattle.lk_keeps.specs.Anew.{kept_anew};
+ghost use Rattle.lk_keeps.specs.Keeps.{AreKept};
 ghost use Rattle.lk_ledger.specs.Saving.{check};
 ghost use Rattle.lk_edition.specs.Checks.{built, check_planned, checked, is_no_memory, over_keeps, over_triggered, rebuilt};
-ghost use Rattle.lk_edition.specs.Standings.{AreKept};
 
 use crate::edition::{Edition, Made};
 use crate::loading::is_loader;

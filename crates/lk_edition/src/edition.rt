@@ -1,6 +1,7 @@
 ghost use Rattle.std.specs.Prelude.{◌≡◌, ◌+◌, ◌++◌, ◌∷◌, [], IfOk, false, map, option_map};
 ghost use Rattle.std.specs.Arc.{arc_value};
 ghost use Rattle.lk_fill.specs.Orders.{IsDeriveOrder};
+ghost use Rattle.lk_fill.specs.Reached.{groups_reached};
 ghost use Rattle.lk_state.specs.Limits.{is_over};
 ghost use Rattle.lk_state.specs.States.{AreTables, sources_at};
 ghost use Rattle.lk_edition.specs.Editions.{standing_of, standing_with, state_of};
@@ -25,6 +26,8 @@ pub(crate) struct Base {
     pub(crate) users: Users,
     // An order in which the derived tables can be made.
     pub(crate) order: Items<u32>,
+    // To which datagroup reading each derived table comes first.
+    pub(crate) groups: Items<Option<u32>>,
 }
 
 // When each datagroup was built last, and what is kept of the builds: editions share it until a check builds anew.
@@ -82,6 +85,7 @@ impl Edition {
     ) -> Result<Edition, NoMemory>
         requires stands { IsStanding (standing_of (arc_value base) (state_of number tables (map arc_value loads)) (arc_value made)) }
         requires order { IsDeriveOrder (arc_value base).model (arc_value base).order }
+        requires groups { (arc_value base).groups ≡ groups_reached (arc_value base).model }
         ensures { IfOk result (λ edition.
             edition ≡ standing_of (arc_value base) (state_of number tables (map arc_value loads)) (arc_value made)) }
     {
@@ -132,29 +136,36 @@ impl Edition {
         &self.set
     }
 
-    // When each datagroup was built last.
-    pub(crate) fn builds(&self) -> &[Build]
+    /// When each datagroup was built last, by number.
+    pub fn builds(&self) -> &[Build]
         ensures { result.now ≡ self.now.builds }
     {
         self.made.builds.as_slice()
     }
 
-    // What is kept of the builds.
-    pub(crate) fn keeps(&self) -> &Keeps
+    /// What is kept of the builds.
+    pub fn keeps(&self) -> &Keeps
         ensures { result.now ≡ self.now.keeps }
     {
         &self.made.keeps
     }
 
-    // An order in which the derived tables can be made.
-    pub(crate) fn order(&self) -> &[u32]
+    /// An order in which the derived tables can be made.
+    pub fn order(&self) -> &[u32]
         ensures { IsDeriveOrder self.now.model result.now }
     {
         self.base.order.as_slice()
     }
 
-    // What each table holds, by number.
-    pub(crate) fn tables(&self) -> &[TableVersion]
+    /// To which datagroup reading each derived table comes first.
+    pub fn groups(&self) -> &[Option<u32>]
+        ensures { result.now ≡ groups_reached self.now.model }
+    {
+        self.base.groups.as_slice()
+    }
+
+    /// What each table of the schema holds, by number.
+    pub fn tables(&self) -> &[TableVersion]
         ensures tables { result.now ≡ self.now.state.tables }
         ensures are { AreTables self.now.model.schema.tables self.now.state.tables }
     {

@@ -8,16 +8,17 @@ ghost use Rattle.lk_semantics.specs.Resolved.{IsResolved};
 ghost use Rattle.lk_table.specs.Contents.{rows_of_each};
 ghost use Rattle.lk_trigger.specs.Builds.{built_at};
 ghost use Rattle.lk_fill.specs.Orders.{IsDeriveOrder};
+ghost use Rattle.lk_fill.specs.Reached.{groups_reached};
 ghost use Rattle.lk_keeps.specs.Anew.{all_kept};
+ghost use Rattle.lk_keeps.specs.Keeps.{AreKept};
 ghost use Rattle.lk_ledger.specs.declared.kept.KeptId.{KeptId};
 ghost use Rattle.lk_state.specs.Openings.{AreSeeds, is_no_memory};
 ghost use Rattle.lk_state.specs.declared.fault.OpenFault.TheVariants as fault;
 ghost use Rattle.lk_edition.specs.Editions.{standing_of, state_of};
 ghost use Rattle.lk_edition.specs.Openings.{standing_built, standing_opened};
-ghost use Rattle.lk_edition.specs.Standings.{AreKept, IsAnswerable};
 
 use crate::edition::{Base, Edition, Made};
-use lk_fill::derive_order;
+use lk_fill::{derive_order, groups_reached};
 use lk_keeps::keep_all;
 use lk_ledger::Kept;
 use lk_rollup::BuildFault;
@@ -42,7 +43,7 @@ impl Edition {
         seeds: &[(u32, Bytes)],
         now: i64,
     ) -> Result<Edition, OpenFault>
-        requires model { IsAnswerable model }
+        requires model { IsResolved model }
         requires seeds { AreSeeds model.schema.tables seeds.now }
         requires years { IsMomentInYears now }
         ensures value { IsUnlessMemory is_no_memory result (standing_opened model users kept seeds.now now) }
@@ -54,18 +55,21 @@ impl Edition {
     }
 }
 
-// The model and the users, with an order in which the derived tables can be made.
+// The model and the users, with an order in which the derived tables can be made, and the datagroups that reading them comes to.
 fn base_of(alloc: Global, model: Model, users: Users) -> Result<Arc<Base>, NoMemory>
     requires { IsResolved model }
     ensures model { IfOk result (λ base. (arc_value base).model ≡ model) }
     ensures users { IfOk result (λ base. (arc_value base).users ≡ users) }
     ensures order { IfOk result (λ base. IsDeriveOrder (arc_value base).model (arc_value base).order) }
+    ensures groups { IfOk result (λ base. (arc_value base).groups ≡ groups_reached (arc_value base).model) }
 {
     let order = derive_order(alloc, &model)?;
+    let groups = groups_reached(alloc, &model)?;
     let base = Base {
         model,
         users,
         order,
+        groups,
     };
     Ok(Arc::new(alloc, base)?)
 }
@@ -77,8 +81,9 @@ fn edition_over(
     seeds: &[(u32, Bytes)],
     now: i64,
 ) -> Result<Edition, OpenFault>
-    requires model { IsAnswerable (arc_value base).model }
+    requires model { IsResolved (arc_value base).model }
     requires order { IsDeriveOrder (arc_value base).model (arc_value base).order }
+    requires groups { (arc_value base).groups ≡ groups_reached (arc_value base).model }
     requires seeds { AreSeeds (arc_value base).model.schema.tables seeds.now }
     requires years { IsMomentInYears now }
     ensures value { IsUnlessMemory is_no_memory result

@@ -1,3 +1,5 @@
 pub mod FillLaws
 pub mod NumberLaws
+pub mod NumberedLaws
 pub mod OrderLaws
+pub mod ReachedLaws

@@ -142,7 +142,7 @@ module _ (m : Model) (resolved : IsResolved m) where
 
   -- ---- what is read is a derived table of the model
 
-  abbrev is_there : Origin → Bool
+  abbrev pub is_there : Origin → Bool
   is_there (origin.Stored t) = true
   is_there (origin.Derived d) = nat_lt d n
 
@@ -170,7 +170,7 @@ module _ (m : Model) (resolved : IsResolved m) where
   joins_there e [] = refl
   joins_there e (j ∷ js) = both (is_there (part_at (explore_at m e) (j + 1)).origin) _ (part_there e (j + 1)) (joins_there e js)
 
-  origins_there : (e : ℕ) (joins : List ℕ) → Every is_there (origins_of (explore_at m e) joins)
+  pub origins_there : (e : ℕ) (joins : List ℕ) → Every is_there (origins_of (explore_at m e) joins)
   origins_there e joins = both (is_there (part_at (explore_at m e) 0).origin) _ (part_there e 0) (joins_there e joins)
 
   derived_there : (o : Origin) → is_there o ≡ true → Every (λ e. nat_lt e n) (derived_in o)

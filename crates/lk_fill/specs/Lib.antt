@@ -1,3 +1,4 @@
 pub mod Reads
 pub mod Orders
 pub mod Fills
+pub mod Reached

@@ -12,7 +12,8 @@ ghost use Rattle.lk_fill.specs.Orders.{IsDeriveOrder};
 ghost use Rattle.lk_fill.specs.Reads.{AreRowsOf, HasRowsOf};
 
 use crate::needed::{needed_over, rows_at_hand};
-use crate::order::{has_number, order_over};
+use crate::numbers::has_number;
+use crate::order::order_over;
 use crate::reading::reads_of_each;
 use lk_rollup::{BuildFault, derive};
 use lk_table::{DerivedRows, StoredTables, TableSet, TableVersion, share_tables};

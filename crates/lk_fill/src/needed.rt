@@ -1,11 +1,11 @@
 // Which derived tables are needed where some are wanted, and the rows that are at hand.
 
-ghost use Rattle.std.specs.Prelude.{◌≡◌, ◌++◌, IfOk, None, OnOk, length, nat_lt, option_map, slice_index_or, true};
+ghost use Rattle.std.specs.Prelude.{◌≡◌, IfOk, None, OnOk, length, nat_lt, option_map, slice_index_or, true};
 ghost use Rattle.std.specs.List.{list_all};
 ghost use Rattle.lk_semantics.specs.Resolved.{IsResolved};
 ghost use Rattle.lk_fill.specs.Fills.{needed_over, with_reads};
 
-use crate::order::has_number;
+use crate::numbers::{add_numbers, has_number};
 use crate::reading::reads_of;
 use lk_table::DerivedRows;
 use lk_types::Model;
@@ -25,7 +25,7 @@ pub(crate) fn needed_over(
     ensures { IfOk result (λ needed. needed ≡ needed_over m.now at_hand.now order.now wanted.now) }
 {
     let mut needed = Items::new(alloc);
-    add_all(&mut needed, wanted)?;
+    add_numbers(&mut needed, wanted)?;
     // From the end: what reads a table stands behind it.
     for place in (0..order.len()).rev() {
         add_reads(alloc, m, order[place], at_hand, &mut needed)?;
@@ -46,16 +46,7 @@ fn add_reads(
     ensures { OnOk result (needed.new ≡ with_reads m.now at_hand.now table needed.old) }
 {
     if has_number(needed.as_slice(), table) && rows_at_hand(at_hand, table).is_none() {
-        add_all(needed, reads_of(alloc, m, table)?.as_slice())?;
-    }
-    Ok(())
-}
-
-fn add_all(numbers: &mut Items<u32>, added: &[u32]) -> Result<(), NoMemory>
-    ensures { OnOk result (numbers.new ≡ numbers.old ++ added.now) }
-{
-    for number in added {
-        numbers.push(*number)?;
+        add_numbers(needed, reads_of(alloc, m, table)?.as_slice())?;
     }
     Ok(())
 }

@@ -6,6 +6,7 @@ ghost use Rattle.lk_types.specs.Expressions.{has_number};
 ghost use Rattle.lk_semantics.specs.Joins.{numbers_below};
 ghost use Rattle.lk_fill.specs.Orders.{after_rounds, is_ready, with_ready};
 
+use crate::numbers::has_number;
 use lk_val::{Items, NoMemory};
 use std::alloc::Global;
 
@@ -60,11 +61,4 @@ fn are_there(order: &[u32], tables: &[u32]) -> bool
         }
     }
     true
-}
-
-/// Whether a number is among some.
-pub(crate) fn has_number(numbers: &[u32], number: u32) -> bool
-    ensures { result ≡ has_number number numbers.now }
-{
-    numbers.iter().any(|other| number == *other)
 }

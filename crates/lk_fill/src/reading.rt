@@ -1,16 +1,14 @@
 // Which derived tables a query reads.
 
 ghost use Rattle.std.specs.Prelude.{◌≡◌, ◌++◌, IfOk, OnOk, length, nat_lt, true};
-ghost use Rattle.lk_semantics.specs.Derived.{explore_at};
 ghost use Rattle.lk_semantics.specs.Joins.{part_at};
 ghost use Rattle.lk_semantics.specs.Reading.{derived_in, read_by};
 ghost use Rattle.lk_semantics.specs.Resolved.{IsResolved};
-ghost use Rattle.lk_semantics.specs.Rollups.{derived_at};
 ghost use Rattle.lk_fill.specs.Orders.{reads_of_each};
 ghost use Rattle.lk_fill.specs.Reads.{tables_read};
 
-use lk_rollup::derived_query;
-use lk_types::{Derived, Explore, Model, Origin};
+use lk_rollup::{derived_of, derived_query, explore_of};
+use lk_types::{Explore, Model, Origin};
 use lk_val::{Items, NoMemory};
 use std::alloc::Global;
 
@@ -72,18 +70,4 @@ pub(crate) fn reads_of(alloc: Global, m: &Model, table: u32) -> Result<Items<u32
     let explore = explore_of(m, derived.explore);
     let query = derived_query(alloc, explore, derived)?;
     tables_read(alloc, explore, query.joins.as_slice())
-}
-
-fn derived_of(m: &Model, number: u32) -> &Derived
-    requires { nat_lt number (length m.now.derived) ≡ true }
-    ensures { result.now ≡ derived_at m.now number }
-{
-    &m.derived.as_slice()[number as usize]
-}
-
-fn explore_of(m: &Model, number: u32) -> &Explore
-    requires { nat_lt number (length m.now.explores) ≡ true }
-    ensures { result.now ≡ explore_at m.now number }
-{
-    &m.explores.as_slice()[number as usize]
 }

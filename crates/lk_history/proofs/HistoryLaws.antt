@@ -25,8 +25,9 @@ use Rattle.lk_http.specs.declared.request.Request.{Request}
 use Rattle.lk_http.specs.declared.request.Target.{Target}
 use Rattle.lk_http.specs.declared.request.Target.TheVariants as target
 use Rattle.lk_kept.specs.Accepted.{AreAccepted, LeadsTo, Step, by_check, by_load}
+use Rattle.lk_session.specs.Recorded.{Recorded, RecordedDoes}
 use Rattle.lk_session.specs.Runs.{AreTurns, IsRun}
-use Rattle.lk_session.specs.Servers.{CheckDoes, IsCommitted, ItemDoes, LoadDoes, Sent, Server, Stays, TargetDoes, call_of}
+use Rattle.lk_session.specs.Servers.{CheckDoes, IsCommitted, ItemDoes, LoadDoes, Sent, Server, Stays, TargetDoes, Telling, by_history, call_of}
 use Rattle.lk_session.specs.declared.ended.Ended.{Ended}
 use Rattle.lk_history.specs.Histories.{HasAccepted}
 
@@ -68,18 +69,18 @@ check_of s t user now (Err fault) reply is does = stayed s t does.2
 check_of s t user now (Ok (Nothing unbuilt)) reply is does = stayed s t does.1
 check_of s t user now (Ok (new_check p)) reply is does = commit_of s t (by_check user now) p reply is does
 
-target_of : (s t : Server) (now : ℤ) (request : Request) (to : Target) (reply : Reply) → TargetDoes s.standing now request to reply t.standing s.store t.store → HasAccepted s t
-target_of s t now request (target.Query explore) reply does = stayed s t does.1
-target_of s t now request (target.Load table replace id) reply does =
+target_of : (IsTold : Telling) (s t : Server) (now : ℤ) (request : Request) (to : Target) (reply : Reply) → TargetDoes IsTold s.standing now request to reply t.standing s.store t.store → HasAccepted s t
+target_of IsTold s t now request (target.Query explore) reply does = stayed s t does.1
+target_of IsTold s t now request (target.Load table replace id) reply does =
     load_of s t (call_of request table replace id) (load_planned s.standing (call_of request table replace id)) reply refl does
-target_of s t now request target.Check reply does =
+target_of IsTold s t now request target.Check reply does =
     check_of s t request.user now (check_planned s.standing request.user now) reply refl does
 
-item_of : (s : Server) (item : Item) (reply : Reply) (t : Server) → ItemDoes s item reply t → HasAccepted s t
-item_of s (Ok End) reply t none = absurd none
-item_of s (Ok (Req request)) reply t (inl does) = target_of s t does.now request request.target reply does.serves
-item_of s (Ok (Req request)) reply t (inr forgotten) = stayed s t forgotten.stays
-item_of s (Err fault) reply t does = unmoved s t does.1
+item_of : (IsTold : Telling) (s : Server) (item : Item) (reply : Reply) (t : Server) → ItemDoes IsTold s item reply t → HasAccepted s t
+item_of IsTold s (Ok End) reply t none = absurd none
+item_of IsTold s (Ok (Req request)) reply t (inl does) = target_of IsTold s t does.now request request.target reply does.serves
+item_of IsTold s (Ok (Req request)) reply t (inr forgotten) = stayed s t forgotten.stays
+item_of IsTold s (Err fault) reply t does = unmoved s t does.1
 
 -- ---- one behind the other
 
@@ -107,17 +108,19 @@ behind s m t p q = record {
   held = q.held ∙ ap (held_with q.saves) p.held ∙ held_behind s.store.held p.saves q.saves;
 }
 
-turns_of : (before : ℕ) (s : Server) (bytes : List ℕ) (sents : List Sent) (t : Server) (rest : List ℕ) → AreTurns before s bytes sents t rest → HasAccepted s t
-turns_of before s bytes [] t rest turns = unmoved s t (sym turns.0)
-turns_of before s bytes (sent ∷ more) t rest (m, left, turn, stays, turns) =
-    behind s m t (item_of s turn.item sent.reply m turn.does) (turns_of (before + 1) m left more t rest turns)
+turns_of : (before : ℕ) (h : Recorded) (bytes : List ℕ) (sents : List Sent) (last : Recorded) (rest : List ℕ) → AreTurns RecordedDoes before h bytes sents last rest
+    → HasAccepted h.server last.server
+turns_of before h bytes [] last rest turns = unmoved h.server last.server (ap (λ (k : Recorded). k.server) (sym turns.0))
+turns_of before h bytes (sent ∷ more) last rest (m, left, turn, stays, turns) =
+    behind h.server m.server last.server (item_of (by_history h.past) h.server turn.item sent.reply m.server turn.does.0)
+    (turns_of (before + 1) m left more last rest turns)
 
-pub run_of : (s last : Server) (bytes rest : List ℕ) (sents : List Sent) (how : Ended) → IsRun s bytes sents last rest how → HasAccepted s last
-run_of s last bytes rest sents how (inl none) = unmoved s last none.same
-run_of s last bytes rest sents how (inr (inl stopped)) = turns_of 0 s bytes sents last stopped.left stopped.turns
-run_of s last bytes rest sents how (inr (inr closed)) =
-    behind s closed.m last (turns_of 0 s bytes closed.front closed.m closed.left closed.turns)
-    (item_of closed.m closed.closes.turn.item closed.sent.reply last closed.closes.turn.does)
+pub run_of : (h last : Recorded) (bytes rest : List ℕ) (sents : List Sent) (how : Ended) → IsRun RecordedDoes h bytes sents last rest how → HasAccepted h.server last.server
+run_of h last bytes rest sents how (inl none) = unmoved h.server last.server (ap (λ (k : Recorded). k.server) none.same)
+run_of h last bytes rest sents how (inr (inl stopped)) = turns_of 0 h bytes sents last stopped.left stopped.turns
+run_of h last bytes rest sents how (inr (inr closed)) =
+    behind h.server closed.m.server last.server (turns_of 0 h bytes closed.front closed.m closed.left closed.turns)
+    (item_of (by_history closed.m.past) closed.m.server closed.closes.turn.item closed.sent.reply last.server closed.closes.turn.does.0)
 
 -- ---- what the store opens
 

@@ -3,8 +3,9 @@ ghost use Rattle.std.specs.List.{All};
 ghost use Rattle.lk_table.specs.BatchTexts.{HasNamedColumns};
 ghost use Rattle.lk_ledger.specs.declared.kept.Kept.{Kept};
 ghost use Rattle.lk_state.specs.Openings.{opened};
+ghost use Rattle.lk_session.specs.Recorded.{Recorded, RecordedDoes};
 ghost use Rattle.lk_session.specs.Runs.{IsRun};
-ghost use Rattle.lk_session.specs.Servers.{Sent, Server};
+ghost use Rattle.lk_session.specs.Servers.{Sent};
 ghost use Rattle.lk_session.specs.declared.ended.Ended.{Ended};
 ghost use Rattle.lk_history.specs.Histories.{HasAccepted};
 
@@ -15,13 +16,13 @@ use lk_kept::stores_hold_the_last_state;
 /// was kept before. Where a server's state is what opens without seeds from what its store told, and the columns of each table have
 /// different names, what opens from what it tells after the session is the state then. A law: it computes nothing.
 pub fn sessions_accept_steps()
-    ensures accepted { (s last : Server) (bytes rest : List ℕ) (sents : List Sent) (how : Ended)
-        → IsRun s bytes sents last rest how → HasAccepted s last }
-    ensures opens_again { (s last : Server) (bytes rest : List ℕ) (sents : List Sent) (how : Ended) (kept : Kept)
-        → IsRun s bytes sents last rest how → s.store.held ≡ Some kept
-        → All HasNamedColumns s.standing.model.schema.tables
-        → opened s.standing.model.schema.tables kept [] ≡ Ok s.standing.state
-        → IfSome last.store.held (λ held. opened s.standing.model.schema.tables held [] ≡ Ok last.standing.state) }
+    ensures accepted { (h last : Recorded) (bytes rest : List ℕ) (sents : List Sent) (how : Ended)
+        → IsRun RecordedDoes h bytes sents last rest how → HasAccepted h.server last.server }
+    ensures opens_again { (h last : Recorded) (bytes rest : List ℕ) (sents : List Sent) (how : Ended) (kept : Kept)
+        → IsRun RecordedDoes h bytes sents last rest how → h.server.store.held ≡ Some kept
+        → All HasNamedColumns h.server.standing.model.schema.tables
+        → opened h.server.standing.model.schema.tables kept [] ≡ Ok h.server.standing.state
+        → IfSome last.server.store.held (λ held. opened h.server.standing.model.schema.tables held [] ≡ Ok last.server.standing.state) }
 {
     stores_hold_the_last_state();
 }

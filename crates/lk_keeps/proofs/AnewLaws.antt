@@ -15,9 +15,10 @@ use Rattle.lk_semantics.specs.Resolved.{IsResolved, is_none_or_below, is_numbere
 use Rattle.lk_semantics.specs.Rollups.{derived_at, no_derived, no_rollup, partials_of, rollup_at}
 use Rattle.lk_semantics.proofs.EveryLaws.{first, second}
 use Rattle.lk_regroup_laws.specs.Regroup.{RollupRow}
+use Rattle.lk_fill.proofs.NumberedLaws.{map_numbered, map_unnumbered, numbered_at}
 use Rattle.lk_keeps.specs.Anew.{derived_anew, keeps_anew, rollup_anew, tables_anew}
 use Rattle.lk_keeps.specs.Keeps.{Keeps, is_of, keeps_of, no_keeps, persisted_rows, persists, sources_over}
-use Rattle.lk_keeps.proofs.ListLaws.{at_below, below_there, map_below, map_numbered, map_unnumbered, numbered_at, of_test, passes_at}
+use Rattle.lk_keeps.proofs.ListLaws.{at_below, below_there, map_below, of_test, passes_at}
 
 -- ---- some datagroups built anew, where each was built before
 
@@ -89,32 +90,35 @@ module _ (m : Model) (groups : List ℕ) (stored : List Rows) (built : ℕ → L
     derived = map_numbered (derived_anew m groups stored kept) (λ (d : ℕ × Derived). persisted_rows m after d.0 d.1.datagroup) m.derived no_derived derived_after i;
   }
 
--- ---- all datagroups of a resolved model, where nothing is kept
+-- ---- numbers in a resolved model
 
-module _ (m : Model) (stored : List Rows) (resolved : IsResolved m) where
-  abbrev all : List ℕ
-  all = numbers_below (length m.datagroups)
-
-  explores_numbered : list_all (is_numbered_explore m) m.explores ≡ true
+module _ (m : Model) (resolved : IsResolved m) where
+  pub explores_numbered : list_all (is_numbered_explore m) m.explores ≡ true
   explores_numbered =
       second (list_all (λ t. is_none_or_below (length t.columns) t.key) m.schema.tables) (list_all (is_numbered_explore m) m.explores)
       (first _ (list_all (is_numbered_derived m) m.derived) (first _ (list_all (is_numbered_datagroup m) m.datagroups) resolved.numbered))
 
-  derived_numbered : list_all (is_numbered_derived m) m.derived ≡ true
+  pub derived_numbered : list_all (is_numbered_derived m) m.derived ≡ true
   derived_numbered =
       second (list_all (λ t. is_none_or_below (length t.columns) t.key) m.schema.tables && list_all (is_numbered_explore m) m.explores)
       (list_all (is_numbered_derived m) m.derived) (first _ (list_all (is_numbered_datagroup m) m.datagroups) resolved.numbered)
 
-  rollup_group : (n i : ℕ) → n < length m.explores → i < length (explore_at m n).rollups → (rollup_at (explore_at m n) i).datagroup < length m.datagroups
+  pub rollup_group : (n i : ℕ) → n < length m.explores → i < length (explore_at m n).rollups → (rollup_at (explore_at m n) i).datagroup < length m.datagroups
   rollup_group n i explore rollup =
       let x = explore_at m n in
       let r = rollup_at x i in
       let rollups = second _ (list_all (is_numbered_rollup m x) x.rollups) (passes_at (is_numbered_explore m) m.explores n no_explore explores_numbered explore) in
       of_test r.datagroup (length m.datagroups) (second _ (nat_lt r.datagroup (length m.datagroups)) (passes_at (is_numbered_rollup m x) x.rollups i no_rollup rollups rollup))
 
-  derived_group : (d : ℕ) → d < length m.derived → is_none_or_below (length m.datagroups) (derived_at m d).datagroup ≡ true
+  pub derived_group : (d : ℕ) → d < length m.derived → is_none_or_below (length m.datagroups) (derived_at m d).datagroup ≡ true
   derived_group d there =
       second _ (is_none_or_below (length m.datagroups) (derived_at m d).datagroup) (passes_at (is_numbered_derived m) m.derived d no_derived derived_numbered there)
+
+-- ---- all datagroups of a resolved model, where nothing is kept
+
+module _ (m : Model) (stored : List Rows) (resolved : IsResolved m) where
+  abbrev all : List ℕ
+  all = numbers_below (length m.datagroups)
 
   tables_whole : (g : ℕ) → g < length m.datagroups → tables_anew m all stored no_keeps g ≡ (if persists m g then stored else [])
   tables_whole g there =
@@ -126,7 +130,7 @@ module _ (m : Model) (stored : List Rows) (resolved : IsResolved m) where
       let x = explore_at m n in
       let r = rollup_at x i in
       ap (λ b. if b then partials_of x (sources_over m stored) r else slice_index_or (slice_index_or no_keeps.rollups n []) i [])
-      (below_there (length m.datagroups) r.datagroup (rollup_group n i explore rollup))
+      (below_there (length m.datagroups) r.datagroup (rollup_group m resolved n i explore rollup))
 
   rollups_whole : (n : ℕ) → n < length m.explores
       → map (rollup_anew m all stored no_keeps n (explore_at m n)) (enumerate_from 0 (explore_at m n).rollups)
@@ -143,7 +147,7 @@ module _ (m : Model) (stored : List Rows) (resolved : IsResolved m) where
       (below_there (length m.datagroups) g (of_test g (length m.datagroups) below))
 
   derived_whole : (d : ℕ) → d < length m.derived → derived_anew m all stored no_keeps (d, derived_at m d) ≡ persisted_rows m (λ g. stored) d (derived_at m d).datagroup
-  derived_whole d there = persisted_whole d (derived_at m d).datagroup (derived_group d there)
+  derived_whole d there = persisted_whole d (derived_at m d).datagroup (derived_group m resolved d there)
 
   pub all_whole : keeps_anew m all stored no_keeps ≡ keeps_of m (λ g. stored)
   all_whole = λ i. record {

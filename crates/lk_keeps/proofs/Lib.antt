@@ -2,3 +2,4 @@ pub mod ListLaws
 pub mod AnewLaws
 pub mod WantedLaws
 pub mod MakingLaws
+pub mod BuiltLaws

@@ -1,8 +1,8 @@
 -- What is kept of the builds of datagroups.
-use Rattle.std.specs.Prelude.{ℕ, Bool, false, if◌then◌else◌, List, [], ◌∷◌, map, length, slice_index_or, Option, None, Some}
+use Rattle.std.specs.Prelude.{◌≡◌, ℕ, Bool, true, false, if◌then◌else◌, List, [], ◌∷◌, map, length, slice_index_or, Option, None, Some}
 use Rattle.std.specs.List.{enumerate_from, list_any}
 use Rattle.lk_types.specs.Expressions.{has_number}
-use Rattle.lk_types.specs.Tables.{Rows}
+use Rattle.lk_types.specs.Tables.{Rows, are_valid_tables}
 use Rattle.lk_types.specs.declared.explore.Explore.{Explore}
 use Rattle.lk_types.specs.declared.explore.Rollup.{Rollup}
 use Rattle.lk_types.specs.declared.model.Derived.{Derived}
@@ -44,6 +44,12 @@ keeps_of m built = record {
   rollups = map (λ (x : Explore). map (λ (r : Rollup). partials_of x (sources_over m (built r.datagroup)) r) x.rollups) m.explores;
   derived = map (λ (d : ℕ × Derived). persisted_rows m built d.0 d.1.datagroup) (enumerate_from 0 m.derived);
 }
+
+-- what is kept is that of builds over some valid tables, for each datagroup
+pub record AreKept (m : Model) (keeps : Keeps) : Type 0 where
+  pub built : ℕ → List Rows
+  pub valid : (g : ℕ) → are_valid_tables m.schema.tables (built g) ≡ true
+  pub is : keeps ≡ keeps_of m built
 
 -- nothing is kept
 abbrev pub no_keeps : Keeps

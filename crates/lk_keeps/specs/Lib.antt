@@ -3,3 +3,4 @@ pub mod Large
 pub mod Anew
 pub mod Wanted
 pub mod Steps
+pub mod Built

@@ -6,7 +6,8 @@ ghost use Rattle.lk_keeps.specs.Keeps.{no_keeps};
 
 use lk_rollup::RollupRows;
 use lk_table::{DerivedRows, TableVersion};
-use lk_val::{Items, NoMemory};
+use lk_types::Partial;
+use lk_val::{Items, NoMemory, Value};
 use std::alloc::Global;
 use std::marker::Model;
 use std::sync::Arc;
@@ -69,6 +70,16 @@ impl Keeps {
         }
     }
 
+    /// The rows of an aggregate table of the explore of a number; none where none are kept.
+    pub fn rollup(&self, explore: u32, number: u32) -> &[(Items<Value>, Items<Partial>)]
+        ensures { result.now ≡ slice_index_or (slice_index_or self.now.rollups explore []) number [] }
+    {
+        match self.rollups.as_slice().get(explore as usize) {
+            Some(rollups) => rows_at(rollups.as_slice(), number),
+            None => &[],
+        }
+    }
+
     /// The rows of an aggregate table of the explore of a number, shared; none where none are kept.
     pub(crate) fn share_rollup(
         &self,
@@ -82,6 +93,15 @@ impl Keeps {
             Some(rollups) => share_at(alloc, rollups.as_slice(), number),
             None => SharedRollup::none(alloc),
         }
+    }
+}
+
+fn rows_at(rollups: &[SharedRollup], number: u32) -> &[(Items<Value>, Items<Partial>)]
+    ensures { result.now ≡ slice_index_or rollups.now number [] }
+{
+    match rollups.get(number as usize) {
+        Some(rollup) => rollup.rows(),
+        None => &[],
     }
 }
 
@@ -127,6 +147,13 @@ impl SharedRollup {
     {
         let rows = Items::new(alloc);
         SharedRollup::new(alloc, RollupRows { rows })
+    }
+
+    /// The rows.
+    pub(crate) fn rows(&self) -> &[(Items<Value>, Items<Partial>)]
+        ensures { result.now ≡ self.now }
+    {
+        self.rollup.rows.as_slice()
     }
 
     /// The rows once more: nothing of them is copied.

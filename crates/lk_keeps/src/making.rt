@@ -15,9 +15,9 @@ ghost use Rattle.lk_keeps.specs.Steps.{large_among, large_persisted, rollups_ane
 ghost use Rattle.lk_keeps.specs.Wanted.{IsReady};
 
 use crate::keeps::{Keeps, SharedRollup};
-use crate::numbers::{has_number, is_of, number_of};
-use lk_fill::wanted_rows_are_read;
-use lk_rollup::{BuildFault, build};
+use crate::numbers::{is_of, number_of};
+use lk_fill::{has_number, wanted_rows_are_read};
+use lk_rollup::{BuildFault, are_many_cells, build, derived_of, explore_of, rollup_of};
 use lk_table::{DerivedRows, TableSet, TableVersion, share_tables};
 use lk_types::{Derived, Explore, Model, Rollup};
 use lk_val::{Items, NoMemory};
@@ -212,32 +212,4 @@ fn persists(m: &Model, group: u32) -> bool
         }
     }
     false
-}
-
-fn explore_of(m: &Model, number: u32) -> &Explore
-    requires { number < length m.now.explores }
-    ensures { result.now ≡ explore_at m.now number }
-{
-    &m.explores.as_slice()[number as usize]
-}
-
-fn rollup_of(x: &Explore, number: u32) -> &Rollup
-    requires { number < length x.now.rollups }
-    ensures { result.now ≡ rollup_at x.now number }
-{
-    &x.rollups.as_slice()[number as usize]
-}
-
-fn derived_of(m: &Model, number: u32) -> &Derived
-    requires { number < length m.now.derived }
-    ensures { result.now ≡ derived_at m.now number }
-{
-    &m.derived.as_slice()[number as usize]
-}
-
-// Whether so many rows of so many columns are more than 1,000,000 cells.
-fn are_many_cells(rows: usize, columns: usize) -> bool
-    ensures { result ≡ are_many_cells rows columns }
-{
-    rows as u128 * columns as u128 > 1_000_000
 }

@@ -1,10 +1,10 @@
 // Numbers of a model's objects, and lists of them.
 
-ghost use Rattle.std.specs.Prelude.{◌≡◌, ◌++◌, IfOk, OnOk};
-ghost use Rattle.lk_types.specs.Expressions.{has_number};
+ghost use Rattle.std.specs.Prelude.{◌≡◌, IfOk};
 ghost use Rattle.lk_semantics.specs.Joins.{numbers_below};
 ghost use Rattle.lk_keeps.specs.Keeps.{is_of};
 
+use lk_fill::has_number;
 use lk_val::{Items, NoMemory};
 use std::alloc::Global;
 
@@ -29,13 +29,6 @@ pub(crate) fn numbers_below(alloc: Global, end: usize) -> Result<Items<u32>, NoM
     Ok(numbers)
 }
 
-/// Whether a number is one of some.
-pub(crate) fn has_number(numbers: &[u32], number: u32) -> bool
-    ensures { result ≡ has_number number numbers.now }
-{
-    numbers.iter().any(|other| number == *other)
-}
-
 /// Whether a datagroup, if there is one, is one of some.
 pub(crate) fn is_of(groups: &[u32], group: Option<u32>) -> bool
     ensures { result ≡ is_of groups.now group }
@@ -44,14 +37,4 @@ pub(crate) fn is_of(groups: &[u32], group: Option<u32>) -> bool
         Some(group) => has_number(groups, group),
         None => false,
     }
-}
-
-/// Adds numbers to a list.
-pub(crate) fn add_numbers(numbers: &mut Items<u32>, more: &[u32]) -> Result<(), NoMemory>
-    ensures { OnOk result (numbers.new ≡ numbers.old ++ more.now) }
-{
-    for number in more {
-        numbers.push(*number)?;
-    }
-    Ok(())
 }

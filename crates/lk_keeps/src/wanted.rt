@@ -4,8 +4,8 @@ ghost use Rattle.std.specs.Prelude.{◌≡◌, ◌++◌, ◌∷◌, [], IfOk, On
 ghost use Rattle.std.specs.List.{enumerate_from};
 ghost use Rattle.lk_keeps.specs.Wanted.{persisted, read_for, read_for_explore, wanted_by};
 
-use crate::numbers::{add_numbers, has_number, is_of, number_of};
-use lk_fill::tables_read;
+use crate::numbers::{is_of, number_of};
+use lk_fill::{add_numbers, has_number, tables_read};
 use lk_rollup::rollup_query;
 use lk_types::{Derived, Explore, Model, Rollup};
 use lk_val::{Items, NoMemory};

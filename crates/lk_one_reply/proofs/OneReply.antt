@@ -1,11 +1,10 @@
 -- There is one reply to words.
-use Rattle.std.proofs.Common.{◌≡◌, ◌∙◌, inl, inr, ℕ, ℤ, List, sym, ap, subst}
+use Rattle.std.proofs.Common.{◌≡◌, ◌∙◌, ℕ, ℤ, Bool, List, [], sym, ap, subst}
 use Rattle.std.specs.Prelude.{Option, Some, None, Result, Ok, Err, true}
 use Rattle.lk_val.specs.declared.fault.FaultLine.{FaultLine}
 use Rattle.lk_io.specs.declared.files.File.{File}
 use Rattle.lk_types.specs.declared.answer.Reply as sent
 use Rattle.lk_types.specs.declared.model.Model.{Model}
-use Rattle.lk_types.specs.declared.rows.Sources.{Sources}
 use Rattle.lk_include.specs.declared.project.ProjectFault.{ProjectFault}
 use Rattle.lk_include.specs.declared.project.ProjectFault.TheVariants as project
 use Rattle.lk_schema.specs.declared.users.Users.{Users}
@@ -14,22 +13,19 @@ use Rattle.lk_resolve.specs.Loading.{IsLoadOf}
 use Rattle.lk_resolve.specs.declared.loading.Loaded.{Loaded}
 use Rattle.lk_seed.specs.Seeds as seeds
 use Rattle.lk_seed.specs.Seeds.{seeds_of}
-use Rattle.lk_ask.specs.Asks.{IsAsked}
 use Rattle.lk_ask.specs.declared.fault.AskFault.{AskFault}
-use Rattle.lk_ask.specs.declared.told.Told.{Told}
 use Rattle.lk_table.specs.Contents.{rows_of_each}
 use Rattle.lk_rollup.specs.declared.fault.BuildFault.{BuildFault}
 use Rattle.lk_rollup.specs.declared.fault.BuildFault.TheVariants as build
 use Rattle.lk_keeps.specs.Anew.{all_kept}
 use Rattle.lk_keeps.specs.Keeps.{Keeps}
 use Rattle.lk_state.specs.Openings.{Seed, opened}
-use Rattle.lk_state.specs.States.{State, sources_at}
+use Rattle.lk_state.specs.States.{State}
 use Rattle.lk_state.specs.declared.fault.OpenFault.{OpenFault}
 use Rattle.lk_edition.specs.Offices.{IsOpening}
 use Rattle.lk_edition.specs.Openings.{standing_built, standing_opened, standing_over}
 use Rattle.lk_edition.specs.Standings.{Standing}
-use Rattle.lk_session.specs.Asking as asking
-use Rattle.lk_session.specs.Asking.{replied}
+use Rattle.lk_answer.specs.Replies.{IsReplied}
 use Rattle.lk_serve.specs.Checks.{IsChecked, IsToldBy}
 use Rattle.lk_serve.specs.Keeping.{IsEmpty}
 use Rattle.lk_serve.specs.Opened.{IsOpened, Opens, OpenedAs, OverFiles, OverLoaded, OverSeeds, numbered, open_line}
@@ -44,12 +40,12 @@ use Rattle.lk_one_reply.specs.Told.{IsTold}
 abbrev pub OneLoad : Type 0
 OneLoad = (files : List File) (r s : Result Loaded ProjectFault) → IsTold r → IsTold s → IsLoadOf files r → IsLoadOf files s → r ≡ s
 
--- a body over tables is told one thing
-abbrev pub OneTold : Type 0
-OneTold = (m : Model) (users : Users) (s : Sources) (user explore body : List ℕ) (now : ℤ) (r t : Result Told AskFault)
-    → IsAsked m users s user explore body now r → IsAsked m users s user explore body now t → r ≡ t
+-- a body is replied one thing on a history
+abbrev pub OneReplied : Type 0
+OneReplied = (e : Standing) (past : List State) (user explore body : List ℕ) (now : ℤ) (csv : Bool) (r s : Result sent.Reply AskFault)
+    → IsReplied e past user explore body now csv r → IsReplied e past user explore body now csv s → r ≡ s
 
-module _ (one_load : OneLoad) (one_told : OneTold) where
+module _ (one_load : OneLoad) (one_told : OneReplied) where
   -- ---- checks
 
   checked_told : (r : Result Loaded ProjectFault) (a : Reply) → IsToldBy r a → IsTold r
@@ -101,10 +97,7 @@ module _ (one_load : OneLoad) (one_told : OneTold) where
 
     over_loaded : (files : List File) (l : Result Loaded ProjectFault) (r s : Result Standing Reply)
         → OverLoaded files begins now l r → OverLoaded files begins now l s → r ≡ s
-    over_loaded files (Ok loaded) r s (inl h) (inl k) = over_files loaded (seeds_of loaded.model.schema.tables files) r s h.1 k.1
-    over_loaded files (Ok loaded) r s (inl h) (inr k) = absurd (k.0 h.0)
-    over_loaded files (Ok loaded) r s (inr h) (inl k) = absurd (h.0 k.0)
-    over_loaded files (Ok loaded) r s (inr h) (inr k) = h.1 ∙ sym k.1
+    over_loaded files (Ok loaded) r s h k = over_files loaded (seeds_of loaded.model.schema.tables files) r s h k
     over_loaded files (Err (project.Model line)) r s h k = h ∙ sym k
     over_loaded files (Err project.Failed) r s h k = absurd h
     over_loaded files (Err project.NoMemory) r s h k = absurd h
@@ -157,8 +150,7 @@ module _ (one_load : OneLoad) (one_told : OneTold) where
 
     loaded_then : (files : List File) (l : Result Loaded ProjectFault) (line : Reply)
         → OverLoaded files begins now l (Err line) → OverLoaded files begins later l (Err line)
-    loaded_then files (Ok loaded) line (inl h) = inl (h.0, files_then loaded (seeds_of loaded.model.schema.tables files) line h.1)
-    loaded_then files (Ok loaded) line (inr h) = inr h
+    loaded_then files (Ok loaded) line h = files_then loaded (seeds_of loaded.model.schema.tables files) line h
     loaded_then files (Err (project.Model fault)) line h = h
     loaded_then files (Err project.Failed) line h = h
     loaded_then files (Err project.NoMemory) line h = h
@@ -172,15 +164,10 @@ module _ (one_load : OneLoad) (one_told : OneTold) where
   one_answer (Ok answer) a b h k = h ∙ sym k
   one_answer (Err fault) a b h k = h.1 ∙ sym k.1
 
-  one_asked : (e : Standing) (user explore body : List ℕ) (now : ℤ) (r t : Result sent.Reply AskFault)
-      → asking.IsAnswered e user explore body now true r → asking.IsAnswered e user explore body now true t → r ≡ t
-  one_asked e user explore body now r t h k =
-      h.is ∙ ap (replied e true) (one_told e.model e.users (sources_at e.state) user explore body now h.told k.told h.is_asked k.is_asked) ∙ sym k.is
-
   one_answered : (e : Standing) (user explore : List ℕ) (now : ℤ) (body : List ℕ) (a b : Reply)
       → IsAnswered e user explore now body a → IsAnswered e user explore now body b → a ≡ b
   one_answered e user explore now body a b h k =
-      let same : h.told ≡ k.told = one_asked e user explore body now h.told k.told h.is k.is in
+      let same : h.told ≡ k.told = one_told e [] user explore body now true h.told k.told h.is k.is in
       one_answer k.told a b (subst (λ r. TellsAnswer r a) same h.tells) k.tells
 
   over_body : (e : Standing) (user explore : List ℕ) (now : ℤ) (body : Option (List ℕ)) (a b : Reply)

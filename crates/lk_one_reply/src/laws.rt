@@ -16,7 +16,7 @@ ghost use Rattle.lk_serve.specs.Words.{asked_by, unknown};
 ghost use Rattle.lk_serve.specs.declared.replies.Reply.{Reply};
 ghost use Rattle.lk_one_reply.specs.Told.{IsTold};
 
-use lk_ask::bodies_are_told_one_thing;
+use lk_answer::bodies_are_replied_one_thing;
 use lk_written::texts_say_one_thing;
 
 /// The effective objects of a project say one thing. A law: it computes nothing.
@@ -41,5 +41,5 @@ pub fn words_have_one_reply()
         → IsOpened files IsEmpty moment (Err line) → IsQueried files user explore input now a → a ≡ line }
 {
     objects_say_one_thing();
-    bodies_are_told_one_thing();
+    bodies_are_replied_one_thing();
 }

@@ -62,8 +62,8 @@ fn capped(
     Ok(RollupRows { rows })
 }
 
-/// Whether so many rows of so many columns are more than 1,000,000 cells.
-pub(crate) fn are_many_cells(rows: usize, columns: usize) -> bool
+/// Whether so many rows of so many columns are more than 1,000,000 cells, which no build may have. (lookd)
+pub fn are_many_cells(rows: usize, columns: usize) -> bool
     ensures { result ≡ are_many_cells rows columns }
 {
     rows as u128 * columns as u128 > 1_000_000

@@ -7,7 +7,7 @@ mod fault;
 mod stored;
 mod values;
 
-pub use building::{RollupRows, build};
+pub use building::{RollupRows, are_many_cells, build};
 pub use derivation::derive;
 pub use fault::BuildFault;
-pub use stored::{derived_query, rollup_query};
+pub use stored::{derived_of, derived_query, explore_of, rollup_of, rollup_query};

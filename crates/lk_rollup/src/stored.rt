@@ -170,24 +170,24 @@ pub(crate) fn stored_groups(
     }
 }
 
-/// The explore of a number.
-pub(crate) fn explore_of(m: &Model, number: u32) -> &Explore
+/// The explore of a number, by which a query names it.
+pub fn explore_of(m: &Model, number: u32) -> &Explore
     requires { nat_lt number (length m.now.explores) ≡ true }
     ensures { result.now ≡ explore_at m.now number }
 {
     &m.explores.as_slice()[number as usize]
 }
 
-/// The aggregate table of a number.
-pub(crate) fn rollup_of(x: &Explore, number: u32) -> &Rollup
+/// The aggregate table of a number: its place among those that the explore declares.
+pub fn rollup_of(x: &Explore, number: u32) -> &Rollup
     requires { nat_lt number (length x.now.rollups) ≡ true }
     ensures { result.now ≡ rollup_at x.now number }
 {
     &x.rollups.as_slice()[number as usize]
 }
 
-/// The derived table of a number.
-pub(crate) fn derived_of(m: &Model, number: u32) -> &Derived
+/// The derived table of a number: its place among those of the model.
+pub fn derived_of(m: &Model, number: u32) -> &Derived
     requires { nat_lt number (length m.now.derived) ≡ true }
     ensures { result.now ≡ derived_at m.now number }
 {

@@ -1,17 +1,20 @@
 -- What is answered at a moment is answered at the next one of the clock, as far as it tells.
-use Rattle.std.proofs.Common.{◌≡◌, List, ℕ, Option, Some, None, refl}
-use Rattle.std.specs.Prelude.{ℤ, IfSome, Ok, Err, slice_get}
+use Rattle.std.proofs.Common.{◌≡◌, List, [], ℕ, Option, Some, None, refl}
+use Rattle.std.specs.Prelude.{ℤ, IfErr, IfSome, Result, Ok, Err, slice_get}
 use Rattle.lk_io.specs.declared.files.File.{File}
 use Rattle.lk_ledger.specs.declared.kept.Kept.{Kept}
+use Rattle.lk_edition.specs.Histories.{Stands}
 use Rattle.lk_edition.specs.Standings.{Standing}
 use Rattle.lk_serve.specs.Keeping.{IsEmpty}
-use Rattle.lk_serve.specs.Opened.{IsOpened, IsOpenedNext}
+use Rattle.lk_serve.specs.Opened.{HasOpened, IsOpened, IsOpenedNext}
 use Rattle.lk_serve.specs.Openings.{IsWhy}
 use Rattle.lk_serve.specs.Queries.{IsQueried, OverEdition}
 use Rattle.lk_serve.specs.Runs.{next_moment}
 use Rattle.lk_serve.specs.declared.opening.Why.{Why}
 use Rattle.lk_serve.specs.declared.opening.Why.TheVariants as why
 use Rattle.lk_serve.specs.declared.replies.Reply.{Reply}
+use Rattle.lk_serve.specs.declared.stops.Stop.{Stop}
+use Rattle.lk_serve.specs.declared.stops.Stop.TheVariants as stop
 
 some_is : (told : Option ℤ) (now : ℤ) → told ≡ Some now → IfSome told (λ moment. now ≡ moment)
 some_is None now is = tt
@@ -59,3 +62,10 @@ pub unopened_next : (begins : Kept → Type 0) (now : ℤ) (next : Option ℤ) (
     → IfSome files (λ told. IsWhy (λ reply. IsOpenedNext told begins next (Err reply)) reason)
 unopened_next begins now next reason is None h = tt
 unopened_next begins now next reason is (Some told) h = why_next begins now next reason told is h
+
+-- the project had opened where the input stops the run
+pub input_opened : (e : Standing) (now : ℤ) (next : Option ℤ) (files : Option (List File)) (r : Result Reply Stop) → Stands e [] → IfSome next (λ moment. now ≡ moment)
+    → IfSome files (λ told. IsOpened told IsEmpty now (Ok e)) → IfErr r (λ reason. reason ≡ stop.Input → HasOpened files IsEmpty next)
+input_opened e now next files (Ok reply) stands is opened = tt
+input_opened e now next files (Err reason) stands is opened =
+    λ _. record { e = e; stands = stands; is = opened_next IsEmpty now next e is files opened }

@@ -1,5 +1,5 @@
 -- What opens nothing over any store opens nothing over what a store handed over.
-use Rattle.std.proofs.Common.{◌≡◌, inl, inr, ap, refl, List}
+use Rattle.std.proofs.Common.{◌≡◌, ap, refl, List}
 use Rattle.std.specs.Prelude.{ℤ, pos, IfErr, IfSome, Option, Some, None, Result, Ok, Err}
 use Rattle.lk_io.specs.declared.files.File.{File}
 use Rattle.lk_include.specs.declared.project.ProjectFault.{ProjectFault}
@@ -8,8 +8,9 @@ use Rattle.lk_ledger.specs.declared.kept.Kept.{Kept}
 use Rattle.lk_resolve.specs.declared.loading.Loaded.{Loaded}
 use Rattle.lk_seed.specs.Seeds.{seeds_of}
 use Rattle.lk_seed.specs.Seeds as seeds
+use Rattle.lk_state.specs.Openings.{Seed}
 use Rattle.lk_serve.specs.Opened.{IsOpened, IsOpenedNext, OverFiles, OverLoaded}
-use Rattle.lk_serve.specs.Openings.{IsFileLine, IsLine, IsUnserved, IsWhy}
+use Rattle.lk_serve.specs.Openings.{HasProject, IsFileLine, IsLine, IsProject, IsUnserved, IsWhy}
 use Rattle.lk_serve.specs.declared.opening.Why.{Why}
 use Rattle.lk_serve.specs.declared.opening.Why.TheVariants as why
 use Rattle.lk_serve.specs.declared.replies.Reply.{Reply}
@@ -22,8 +23,7 @@ module _ (begins : Kept → Type 0) (now : ℤ) where
   file_line loaded (Err project.NoMemory) reply h = h
 
   unserved : (files : List File) (loaded : Result Loaded ProjectFault) (reply : Reply) → IsUnserved files loaded reply → OverLoaded files begins now loaded (Err reply)
-  unserved files (Ok loaded) reply (inl h) = inl (h.0, file_line loaded (seeds_of loaded.model.schema.tables files) reply h.1)
-  unserved files (Ok loaded) reply (inr h) = inr (h.0, ap Err h.1)
+  unserved files (Ok loaded) reply h = file_line loaded (seeds_of loaded.model.schema.tables files) reply h
   unserved files (Err (project.Model fault)) reply h = ap Err h
   unserved files (Err project.Failed) reply h = h
   unserved files (Err project.NoMemory) reply h = h
@@ -48,3 +48,17 @@ pub line_opens : (begins : Kept → Type 0) (next : Option ℤ) (files : Option 
     → IfSome files (λ told. IsWhy (λ reply. IsOpenedNext told begins next (Err reply)) reason)
 line_opens begins next None reason h = tt
 line_opens begins next (Some told) reason h = line_of begins next told reason h
+
+-- ---- what opens nothing for the store's sake
+
+-- the files have no line where their project was read
+pub project_there : {A B : Type 0} (r : Result A B) (why_of : B → Why) (files : Option (List File)) (loaded : Loaded) (given : List Seed)
+    → IfSome files (λ told. IsProject told loaded given) → IfSome files (λ told. IfErr r (λ unserved. why_of unserved ≡ why.Store → HasProject told))
+project_there r why_of None loaded given h = tt
+project_there (Ok office) why_of (Some told) loaded given h = tt
+project_there (Err unserved) why_of (Some told) loaded given h = λ _. record { loaded = loaded; given = given; is = h }
+
+-- where their project was not read, the store stops nothing
+pub project_aside : (files : Option (List File)) (reason : Why) → (reason ≡ why.Store → ⊥) → IfSome files (λ told. reason ≡ why.Store → HasProject told)
+project_aside None reason never = tt
+project_aside (Some told) reason never = λ store. absurd (never store)

@@ -1,5 +1,5 @@
 -- What a folder's project opens over what a store handed over: the edition of its opening, or the line on why there is none. (lookd)
-use Rattle.std.specs.Prelude.{◌≡◌, ◌⊎◌, ◌+◌, ℕ, ℤ, List, [], ◌∷◌, codes, Option, Some, None, IfSome, Result, Ok, Err}
+use Rattle.std.specs.Prelude.{◌≡◌, ◌+◌, ℕ, ℤ, List, [], ◌∷◌, codes, Option, Some, None, IfSome, Result, Ok, Err}
 use Rattle.lk_val.specs.declared.fault.FaultLine.{FaultLine}
 use Rattle.lk_val.specs.declared.fault.ModelFault.{ModelFault}
 use Rattle.lk_val.specs.declared.fault.ModelFault.TheVariants as model
@@ -20,9 +20,10 @@ use Rattle.lk_seed.specs.Seeds as seeds
 use Rattle.lk_state.specs.Openings.{Seed}
 use Rattle.lk_state.specs.declared.fault.OpenFault.{OpenFault}
 use Rattle.lk_state.specs.declared.fault.OpenFault.TheVariants as opening
+use Rattle.lk_edition.specs.Histories.{Stands}
 use Rattle.lk_edition.specs.Offices.{IsOpening}
-use Rattle.lk_edition.specs.Standings.{IsAnswerable, Standing}
-use Rattle.lk_serve.specs.Replies.{fault_reply, unanswered_reply}
+use Rattle.lk_edition.specs.Standings.{Standing}
+use Rattle.lk_serve.specs.Replies.{fault_reply}
 use Rattle.lk_serve.specs.declared.replies.Reply.{Reply}
 
 -- ---- the seeds of an opening
@@ -62,9 +63,9 @@ open_fault opening.NoMemory = model.NoMemory
 abbrev pub open_line : OpenFault → Option FaultLine
 open_line fault = line_of (open_fault fault)
 
--- the line of some fault, or that the model is not served (Z1)
+-- the line of some fault
 abbrev pub TellsLine : Reply → Type 0
-TellsLine reply = ((line : FaultLine) × (reply ≡ fault_reply line)) ⊎ (reply ≡ unanswered_reply)
+TellsLine reply = (line : FaultLine) × (reply ≡ fault_reply line)
 
 -- ---- what the project's files open
 
@@ -90,11 +91,8 @@ OverFiles loaded begins now (Err (project.Model fault)) result = result ≡ Err 
 OverFiles loaded begins now (Err project.Failed) result = ⊥
 OverFiles loaded begins now (Err project.NoMemory) result = ⊥
 
--- a model all of whose tables are stored is served; no other is so far (Z1)
 abbrev pub OverLoaded : List File → (Kept → Type 0) → ℤ → Result Loaded ProjectFault → Result Standing Reply → Type 0
-OverLoaded files begins now (Ok loaded) result =
-    (IsAnswerable loaded.model × OverFiles loaded begins now (seeds_of loaded.model.schema.tables files) result)
-    ⊎ ((IsAnswerable loaded.model → ⊥) × (result ≡ Err unanswered_reply))
+OverLoaded files begins now (Ok loaded) result = OverFiles loaded begins now (seeds_of loaded.model.schema.tables files) result
 OverLoaded files begins now (Err (project.Model fault)) result = result ≡ Err (fault_reply fault)
 OverLoaded files begins now (Err project.Failed) result = ⊥
 OverLoaded files begins now (Err project.NoMemory) result = ⊥
@@ -110,3 +108,9 @@ pub record IsOpenedNext (files : List File) (begins : Kept → Type 0) (next : O
   pub moment : ℤ
   pub is_next : IfSome next (λ told. moment ≡ told)
   pub is : IsOpened files begins moment result
+
+-- it opened so with an edition whose history is its state alone
+pub record HasOpened (files : Option (List File)) (begins : Kept → Type 0) (next : Option ℤ) : Type 0 where
+  pub e : Standing
+  pub stands : Stands e []
+  pub is : IfSome files (λ told. IsOpenedNext told begins next (Ok e))

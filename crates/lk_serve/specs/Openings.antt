@@ -1,31 +1,36 @@
 -- The steps of an opening.
-use Rattle.std.specs.Prelude.{◌≡◌, ◌⊎◌, ◌≤◌, ⊤, ℕ, ◌++◌, ◌∷◌, [], List, Option, Some, None, Result, Ok, Err}
+use Rattle.std.specs.Prelude.{◌≡◌, ◌≤◌, ⊤, ℕ, ◌++◌, ◌∷◌, [], List, Option, Some, None, Result, Ok, Err}
 use Rattle.lk_val.specs.declared.fault.ModelFault.{ModelFault}
 use Rattle.lk_io.specs.Causes.{Rose}
 use Rattle.lk_io.specs.declared.files.File.{File}
 use Rattle.lk_state.specs.Openings.{Seed}
 use Rattle.lk_state.specs.declared.fault.OpenFault.{OpenFault}
 use Rattle.lk_state.specs.declared.fault.OpenFault.TheVariants as opening
-use Rattle.lk_edition.specs.Standings.{IsAnswerable}
 use Rattle.lk_resolve.specs.Loading.{IsLoadOf}
 use Rattle.lk_resolve.specs.declared.loading.Loaded.{Loaded}
 use Rattle.lk_seed.specs.Seeds.{seeds_of}
 use Rattle.lk_seed.specs.Seeds as seeds
 use Rattle.lk_include.specs.declared.project.ProjectFault.{ProjectFault}
 use Rattle.lk_include.specs.declared.project.ProjectFault.TheVariants as project
-use Rattle.lk_serve.specs.Replies.{fault_reply, unanswered_reply}
+use Rattle.lk_serve.specs.Replies.{fault_reply}
 use Rattle.lk_serve.specs.Opened.{Opens, TellsLine, line_of, numbered, open_line}
 use Rattle.lk_serve.specs.declared.opening.Why.{Why}
 use Rattle.lk_serve.specs.declared.opening.Why.TheVariants as why
 use Rattle.lk_serve.specs.declared.replies.Reply.{Reply}
 use Rattle.lk_serve.specs.declared.replies.Status.TheVariants.{Faulty}
 
--- the project is served, and these are the batches of its data files
+-- the project loads, and these are the batches of its data files
 pub record IsProject (files : List File) (loaded : Loaded) (given : List Seed) : Type 0 where
   pub is_load : IsLoadOf files (Ok loaded)
   pub found : List seeds.Seed
   pub is_found : Ok found ≡ seeds_of loaded.model.schema.tables files
   pub numbers : given ≡ numbered 0 found
+
+-- the files have no line: the project loads, and its data files give batches
+pub record HasProject (files : List File) : Type 0 where
+  pub loaded : Loaded
+  pub given : List Seed
+  pub is : IsProject files loaded given
 
 -- a batch behind some, where its table has one
 abbrev pub with_seed : List Seed → ℕ → seeds.Seed → List Seed
@@ -39,7 +44,7 @@ IsWhy Is why.Store = ⊤
 IsWhy Is why.Files = ⊤
 IsWhy Is why.Memory = ⊤
 
--- the line is that of a fault, or Z1
+-- the line is that of a fault
 abbrev pub IsFaulty : Why → Type 0
 IsFaulty (why.Told reply) = (reply.status ≡ Faulty) × TellsLine reply
 IsFaulty why.Store = ⊤
@@ -55,9 +60,7 @@ IsFileLine (Err project.NoMemory) reply = ⊥
 
 -- a project that loads so opens nothing over any store, with this line
 abbrev pub IsUnserved : List File → Result Loaded ProjectFault → Reply → Type 0
-IsUnserved files (Ok loaded) reply =
-    (IsAnswerable loaded.model × IsFileLine (seeds_of loaded.model.schema.tables files) reply)
-    ⊎ ((IsAnswerable loaded.model → ⊥) × (reply ≡ unanswered_reply))
+IsUnserved files (Ok loaded) reply = IsFileLine (seeds_of loaded.model.schema.tables files) reply
 IsUnserved files (Err (project.Model fault)) reply = reply ≡ fault_reply fault
 IsUnserved files (Err project.Failed) reply = ⊥
 IsUnserved files (Err project.NoMemory) reply = ⊥

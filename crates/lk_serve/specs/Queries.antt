@@ -1,5 +1,5 @@
 -- The reply to `query`: to a caller's query on an explore, over the edition that a folder's project opens over an empty store. (lookd)
-use Rattle.std.specs.Prelude.{◌≡◌, ◌⊎◌, ℤ, IfSome, nat_le, false, if◌then◌else◌, List, length, ℕ, Option, Some, None, Result, Ok, Err, true}
+use Rattle.std.specs.Prelude.{◌≡◌, ◌⊎◌, ℤ, IfSome, nat_le, false, if◌then◌else◌, List, [], length, ℕ, Option, Some, None, Result, Ok, Err, true}
 use Rattle.lk_val.specs.declared.fault.FaultLine.{FaultLine}
 use Rattle.lk_io.specs.declared.files.File.{File}
 use Rattle.lk_val.specs.Years.{IsMomentInYears}
@@ -9,10 +9,10 @@ use Rattle.lk_ask.specs.Asks.{is_no_memory}
 use Rattle.lk_ask.specs.declared.fault.AskFault.{AskFault}
 use Rattle.lk_ask.specs.declared.told.Told.{Told}
 use Rattle.lk_edition.specs.Standings.{Standing}
-use Rattle.lk_session.specs.Asking as asking
+use Rattle.lk_answer.specs.Replies.{IsReplied}
 use Rattle.lk_serve.specs.Keeping.{IsEmpty}
 use Rattle.lk_serve.specs.Opened.{IsOpened}
-use Rattle.lk_serve.specs.Replies.{ComesUnread, answer_reply, fault_reply, long_reply, printed_answer, refused_reply, unanswered_reply}
+use Rattle.lk_serve.specs.Replies.{ComesUnread, answer_reply, fault_reply, long_reply, printed_answer, refused_reply}
 use Rattle.lk_serve.specs.declared.replies.Reply.{Reply}
 
 -- ---- over an edition
@@ -22,10 +22,10 @@ abbrev pub TellsAnswer : Result sent.Reply AskFault → Reply → Type 0
 TellsAnswer (Ok answer) reply = reply ≡ printed_answer answer
 TellsAnswer (Err fault) reply = (is_no_memory fault ≡ false) × (reply ≡ refused_reply fault)
 
--- the body asks something of the edition, and the reply tells what comes of it, in CSV
+-- the body asks something of an edition whose history is its state alone, and the reply tells what comes of it, in CSV
 pub record IsAnswered (e : Standing) (user explore : List ℕ) (now : ℤ) (body : List ℕ) (reply : Reply) : Type 0 where
   pub told : Result sent.Reply AskFault
-  pub is : asking.IsAnswered e user explore body now true told
+  pub is : IsReplied e [] user explore body now true told
   pub tells : TellsAnswer told reply
 
 -- the input, where it has at most 16,777,216 bytes
@@ -59,11 +59,10 @@ pub record IsQueried (files : List File) (user explore : List ℕ) (input : Opti
 
 -- ---- whatever the objects show
 
--- the line of some fault, that no query is answered, that the input is too long, a refusal, or an answer
+-- the line of some fault, that the input is too long, a refusal, or an answer
 abbrev pub TellsSome : Reply → Type 0
 TellsSome reply =
     ((line : FaultLine) × (reply ≡ fault_reply line))
-    ⊎ ((reply ≡ unanswered_reply)
     ⊎ ((reply ≡ long_reply)
     ⊎ (((fault : AskFault) × (is_no_memory fault ≡ false) × (reply ≡ refused_reply fault))
-    ⊎ ((m : Model) × (told : Told) × (reply ≡ answer_reply m told)))))
+    ⊎ ((m : Model) × (told : Told) × (reply ≡ answer_reply m told))))

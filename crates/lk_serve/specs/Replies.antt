@@ -48,10 +48,6 @@ ok_reply = record { body = line (codes "ok"); status = Done }
 abbrev pub fault_reply : FaultLine → Reply
 fault_reply fault = record { body = fault_text fault; status = Faulty }
 
--- no query is answered over the model
-abbrev pub unanswered_reply : Reply
-unanswered_reply = record { body = line (codes "Z1 - 0 - -"); status = Faulty }
-
 -- the input is too long for a query's body
 abbrev pub long_reply : Reply
 long_reply = record { body = line (codes "{\"error\":\"H3\"}"); status = Refused }

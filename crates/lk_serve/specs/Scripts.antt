@@ -1,5 +1,5 @@
 -- What `script` does: it opens the server over a folder's project, and serves the requests of the input. (lookd)
-use Rattle.std.specs.Prelude.{◌≡◌, ◌⊎◌, ◌≤◌, ◌==◌, ◌||◌, IsTrue, ℕ, ℤ, List, Option, IfSome, Ok, Err}
+use Rattle.std.specs.Prelude.{◌≡◌, ◌⊎◌, ◌≤◌, ◌==◌, ◌||◌, IsTrue, ℕ, ℤ, List, [], Option, IfSome, Ok, Err}
 use Rattle.std.specs.Io.KnownBytes.{Appends}
 use Rattle.std.specs.Option.{option_map}
 use Rattle.lk_io.specs.Moments.{later}
@@ -7,11 +7,12 @@ use Rattle.lk_io.specs.Streams.{AppendsFront}
 use Rattle.lk_io.specs.declared.files.File.{File}
 use Rattle.lk_ledger.specs.declared.kept.Kept.{Kept}
 use Rattle.lk_edition.specs.Standings.{Standing}
-use Rattle.lk_session.specs.Runs.{IsSession}
+use Rattle.lk_session.specs.Recorded.{IsRecorded}
 use Rattle.lk_session.specs.Servers.{server}
 use Rattle.lk_session.specs.declared.ended.Ended.{Ended}
 use Rattle.lk_session.specs.declared.ended.Ended.TheVariants as ended
-use Rattle.lk_serve.specs.Opened.{IsOpenedNext, TellsLine}
+use Rattle.lk_serve.specs.Opened.{HasOpened, IsOpenedNext, TellsLine}
+use Rattle.lk_serve.specs.Openings.{HasProject}
 use Rattle.lk_serve.specs.Runs.{IsAskedOnce, next_moment}
 use Rattle.lk_serve.specs.declared.replies.Reply.{Reply}
 
@@ -55,34 +56,34 @@ pub record DidNotOpen (files : Option (List File)) (begins : Kept → Type 0) (a
   pub asked : IsAskedOnce a.moments b.moments
   pub out : ((status ≡ 1) × Appends a.out b.out reply.body) ⊎ ((status ≡ 4) × AppendsFront a.out b.out reply.body)
 
--- the run stopped before it had a server or a line: for the store (5), for memory (6), or for the files (7)
-pub record Stopped (a b : Outside) (status : ℕ) : Type 0 where
+-- the run stopped before it had a server or a line: for the store (5), which is read where the files have no line, for memory (6), or for the files (7)
+pub record Stopped (files : Option (List File)) (a b : Outside) (status : ℕ) : Type 0 where
+  pub project : IfSome files (λ told. status ≡ 5 → HasProject told)
   pub status_is : (status ≡ 5) ⊎ ((status ≡ 6) ⊎ (status ≡ 7))
   pub untouched : IsUntouched a b
   pub asked : IsAskedOnce a.moments b.moments
   pub silent : b.out ≡ a.out
 
--- a session of a server, as far as the input tells
+-- a session of a server whose history is its state alone, as far as the input tells
 abbrev pub IsServedBy : Standing → Outside → Outside → Ended → Type 0
 IsServedBy e a b how = IfSome a.left (λ bytes. (last : Standing)
-    × IsSession (server e a.kept a.faults a.moments) bytes a.out b.out (server last b.kept b.faults b.moments) b.left how)
+    × IsRecorded (server e a.kept a.faults a.moments) [] bytes a.out b.out (server last b.kept b.faults b.moments) b.left how)
 
 -- the server opened at the next moment, and the run is a session of it at those behind
 pub record Served (files : Option (List File)) (begins : Kept → Type 0) (a b : Outside) (status : ℕ) : Type 0 where
-  pub e : Standing
-  pub is : IfSome files (λ told. IsOpenedNext told begins (next_moment a.moments) (Ok e))
+  pub opened : HasOpened files begins (next_moment a.moments)
   pub begun : Outside
   pub untouched : IsUntouched a begun
   pub asked : begun.moments ≡ option_map later a.moments
   pub later : a.faults ≤ begun.faults
   pub silent : begun.out ≡ a.out
   pub how : Ended
-  pub served : IsServedBy e begun b how
+  pub served : IsServedBy opened.e begun b how
   pub ended : status ≡ ended_code how
 
 -- what `script` does, over files and what the store hands over
 abbrev pub HasServed : Option (List File) → (Kept → Type 0) → Outside → Outside → ℕ → Type 0
-HasServed files begins a b status = Served files begins a b status ⊎ (DidNotOpen files begins a b status ⊎ Stopped a b status)
+HasServed files begins a b status = Served files begins a b status ⊎ (DidNotOpen files begins a b status ⊎ Stopped files a b status)
 
 -- the run is a session of this server
 pub record HasEnded (e : Standing) (a b : Outside) (status : ℕ) : Type 0 where

@@ -11,18 +11,18 @@ ghost use Rattle.lk_include.specs.Gathering.{file_line};
 ghost use Rattle.lk_seed.specs.Seeds.{Seed, seeds_of};
 ghost use Rattle.lk_state.specs.Openings.{AreSeeds};
 ghost use Rattle.lk_state.specs.declared.fault.OpenFault.{OpenFault};
+ghost use Rattle.lk_edition.specs.Histories.{Stands};
 ghost use Rattle.lk_edition.specs.Offices.{Begins, IsOpening, standing_in};
-ghost use Rattle.lk_edition.specs.Standings.{IsAnswerable};
 ghost use Rattle.lk_session.specs.Steps.{keeper_in};
 ghost use Rattle.lk_serve.specs.Keeping.{IsEmpty};
 ghost use Rattle.lk_serve.specs.Opened.{IsOpened, IsOpenedNext, Opens, numbered, open_fault, open_line, unread_fault, unread_line};
-ghost use Rattle.lk_serve.specs.Openings.{HasWhyCause, IsFaulty, IsLine, IsProject, IsUnserved, IsWhy, OpensNot, ProjectNot, TellsFault, with_seed};
+ghost use Rattle.lk_serve.specs.Openings.{HasProject, HasWhyCause, IsFaulty, IsLine, IsProject, IsUnserved, IsWhy, OpensNot, ProjectNot, TellsFault, with_seed};
 ghost use Rattle.lk_serve.specs.Runs.{IsAskedOnce, next_moment};
 ghost use Rattle.lk_serve.specs.declared.opening.Why.{Why};
 
 use crate::keeping::empty_kept;
-use crate::replies::{Reply, fault_found, unanswered};
-use lk_edition::{Edition, Office, Unopened};
+use crate::replies::{Reply, fault_found};
+use lk_edition::{Edition, Office, Unopened, openings_begin_a_history};
 use lk_include::ProjectFault;
 use lk_io::{Clock, Files};
 use lk_ledger::Keeper;
@@ -30,7 +30,7 @@ use lk_resolve::{Loaded, load};
 use lk_seed::{read_seeds, seed_fault};
 use lk_state::OpenFault;
 use lk_table::BatchFault;
-use lk_types::{Model, Shape, print_cell};
+use lk_types::{Shape, print_cell};
 use lk_val::{Bytes, Cell, FaultLine, Items, ModelFault, NoMemory, Text, Value};
 use std::alloc::Global;
 
@@ -72,16 +72,16 @@ pub struct Unserved<K> {
     pub keeper: K,
 }
 
-// A project that is served: its model and users, and the batches of its data files with the numbers of their tables.
+// A project: its model and users, and the batches of its data files with the numbers of their tables.
 struct Opening {
     loaded: Loaded,
     seeds: Vec<(u32, Bytes)>,
 }
 
 /// The edition that a folder's project opens over an empty store for queries, or why it opens none: the first fault of the
-/// project, Z1 for a model that is not answered over, a data file that is too big (P1), the first data file that does not read
-/// (L3, L5, L4), tables over a limit (L6), or a build that is too large (G2). The clock is asked once, before the tables are
-/// read, and not at all where the project's files open nothing. (lookd)
+/// project, a data file that is too big (P1), the first data file that does not read (L3, L5, L4), tables over a limit (L6), or a
+/// build that is too large (G2). The clock is asked once, before the tables are read, and not at all where the project's files
+/// open nothing. (lookd)
 #[tactic(auto, using(crate::proofs::MomentLaws::next_is, crate::proofs::MomentLaws::unopened_next, crate::proofs::OpenedLaws::line_opens))]
 pub fn open_edition<F: Files, C: Clock>(
     alloc: Global,
@@ -93,6 +93,7 @@ pub fn open_edition<F: Files, C: Clock>(
     ensures unopened { IfSome (F.told files.old) (λ told. IfErr result
         (IsWhy (λ reply. IsOpenedNext told IsEmpty (next_moment (C.moments clock.old)) (Err reply)))) }
     ensures faulty { IfErr result IsFaulty }
+    ensures stands { IfOk result (λ opened. Stands opened.edition []) }
     ensures number { IfOk result (λ opened. opened.edition.state.number ≡ 0) }
     ensures years { IfOk result (λ opened. IsMomentInYears opened.now) }
     ensures next { IfOk result (λ opened. IfSome (next_moment (C.moments clock.old)) (λ told. opened.now ≡ told)) }
@@ -109,7 +110,7 @@ pub fn open_edition<F: Files, C: Clock>(
 }
 
 fn edition_over(alloc: Global, opening: Opening, now: i64) -> Result<Edition, Why>
-    requires answerable { IsAnswerable opening.loaded.model }
+    requires model { IsResolved opening.loaded.model }
     requires years { IsMomentInYears now }
     requires seeds { AreSeeds opening.loaded.model.schema.tables opening.seeds.items }
     ensures opened { IfOk result (λ edition. IsOpening opening.loaded.model opening.loaded.users IsEmpty
@@ -117,10 +118,12 @@ fn edition_over(alloc: Global, opening: Opening, now: i64) -> Result<Edition, Wh
     ensures unopened { IfErr result (IsWhy (λ reply. (fault : OpenFault) × Opens (open_line fault) reply
         × IsOpening opening.loaded.model opening.loaded.users IsEmpty opening.seeds.items now (Err fault))) }
     ensures faulty { IfErr result IsFaulty }
+    ensures stands { IfOk result (λ edition. Stands edition []) }
     ensures number { IfOk result (λ edition. edition.state.number ≡ 0) }
     ensures store { IfErr result (λ why. why ≡ Why.Store → ⊥) }
     ensures files { IfErr result (λ why. why ≡ Why.Files → ⊥) }
 {
+    openings_begin_a_history();
     let Opening { loaded, seeds } = opening;
     let Loaded { model, users } = loaded;
     match Edition::open(
@@ -136,11 +139,10 @@ fn edition_over(alloc: Global, opening: Opening, now: i64) -> Result<Edition, Wh
     }
 }
 
-/// The server that a folder's project opens over a store, or why it does not: the first fault of the project, Z1 for a model
-/// that is not served, a data file that is too big (P1), the first kept batch that does not read (O1), the first data file
-/// that does not read (L3, L5, L4), tables over a limit (L6), or a build that is too large (G2). The clock is asked once, before
-/// the store is read, and not at all where the project's files open nothing. It changes neither the files nor what the store
-/// holds. (lookd)
+/// The server that a folder's project opens over a store, or why it does not: the first fault of the project, a data file that is
+/// too big (P1), the first kept batch that does not read (O1), the first data file that does not read (L3, L5, L4), tables over a
+/// limit (L6), or a build that is too large (G2). The clock is asked once, before the store is read, and not at all where the
+/// project's files open nothing. It changes neither the files nor what the store holds. (lookd)
 #[tactic(auto, using(crate::proofs::MomentLaws::next_is, crate::proofs::MomentLaws::opened_next, crate::proofs::MomentLaws::unopened_next, crate::proofs::OpenedLaws::line_opens))]
 pub fn open_office<F: Files, K: Keeper, C: Clock>(
     alloc: Global,
@@ -152,7 +154,9 @@ pub fn open_office<F: Files, K: Keeper, C: Clock>(
         IsOpenedNext told (Begins (K.held keeper) (K.handed keeper)) (next_moment (C.moments clock.old)) (Ok (standing_in office)))) }
     ensures unopened { IfSome (F.told files.old) (λ told. IfErr result (λ unserved.
         IsWhy (λ reply. IsOpenedNext told (Begins (K.held keeper) (K.handed keeper)) (next_moment (C.moments clock.old)) (Err reply)) unserved.why)) }
+    ensures project { IfSome (F.told files.old) (λ told. IfErr result (λ unserved. unserved.why ≡ Why.Store → HasProject told)) }
     ensures faulty { IfErr result (λ unserved. IsFaulty unserved.why) }
+    ensures stands { IfOk result (λ office. Stands (standing_in office) []) }
     ensures kept_ok { IfOk result (λ office. K.held (keeper_in office) ≡ K.held keeper) }
     ensures kept_err { IfErr result (λ unserved. K.held unserved.keeper ≡ K.held keeper) }
     ensures cause_ok { IfOk result (λ office. K.faults keeper ≤ K.faults (keeper_in office)) }
@@ -178,7 +182,7 @@ fn open_over<K: Keeper>(
     keeper: K,
     now: i64,
 ) -> Result<Office<K>, Unserved<K>>
-    requires answerable { IsAnswerable opening.loaded.model }
+    requires model { IsResolved opening.loaded.model }
     requires years { IsMomentInYears now }
     requires seeds { AreSeeds opening.loaded.model.schema.tables opening.seeds.items }
     ensures opened { IfOk result (λ office. IsOpening opening.loaded.model opening.loaded.users (Begins (K.held keeper) (K.handed keeper)) opening.seeds.items now
@@ -186,6 +190,7 @@ fn open_over<K: Keeper>(
     ensures unopened { IfErr result (λ unserved. IsWhy (λ reply. (fault : OpenFault) × Opens (open_line fault) reply
         × IsOpening opening.loaded.model opening.loaded.users (Begins (K.held keeper) (K.handed keeper)) opening.seeds.items now (Err fault)) unserved.why) }
     ensures faulty { IfErr result (λ unserved. IsFaulty unserved.why) }
+    ensures stands { IfOk result (λ office. Stands (standing_in office) []) }
     ensures kept_ok { IfOk result (λ office. K.held (keeper_in office) ≡ K.held keeper) }
     ensures kept_err { IfErr result (λ unserved. K.held unserved.keeper ≡ K.held keeper) }
     ensures cause_ok { IfOk result (λ office. K.faults keeper ≤ K.faults (keeper_in office)) }
@@ -193,6 +198,7 @@ fn open_over<K: Keeper>(
     ensures cause { IfErr result (λ unserved. unserved.why ≡ Why.Store → Rose (K.faults keeper) (K.faults unserved.keeper)) }
     ensures never { IfErr result (λ unserved. unserved.why ≡ Why.Files → ⊥) }
 {
+    openings_begin_a_history();
     let Opening { loaded, seeds } = opening;
     let Loaded { model, users } = loaded;
     match Office::open(alloc, model, users, keeper, seeds.as_slice(), now) {
@@ -296,12 +302,12 @@ fn printed(alloc: Global, key: Value) -> Result<Text, NoMemory>
     print_cell(alloc, &Cell::Value(key), &Shape::Plain)
 }
 
-// The project of the files, where it is served so.
+// The project of the files.
 fn read_project<F: Files>(alloc: Global, files: &mut F) -> Result<Opening, Why>
     ensures project { IfSome (F.told files.old) (λ told. IfOk result (λ opening. IsProject told opening.loaded opening.seeds.items)) }
     ensures line { IfSome (F.told files.old) (λ told. IfErr result (IsWhy (IsLine told))) }
     ensures faulty { IfErr result IsFaulty }
-    ensures answerable { IfOk result (λ opening. IsAnswerable opening.loaded.model) }
+    ensures resolved { IfOk result (λ opening. IsResolved opening.loaded.model) }
     ensures seeds { IfOk result (λ opening. AreSeeds opening.loaded.model.schema.tables opening.seeds.items) }
     ensures later { F.faults files.old ≤ F.faults files.new }
     ensures cause { IfErr result (λ why. why ≡ Why.Files → Rose (F.faults files.old) (F.faults files.new)) }
@@ -329,24 +335,19 @@ fn project_not(alloc: Global, fault: ProjectFault) -> Why
     }
 }
 
-// The batches of a project's data files, where it is served so.
+// The batches of a project's data files.
 fn read_batches<F: Files>(alloc: Global, files: &mut F, loaded: Loaded) -> Result<Opening, Why>
-    requires { IsResolved loaded.model }
     ensures loaded { IfOk result (λ opening. opening.loaded ≡ loaded) }
     ensures batches { IfSome (F.told files.old) (λ told. IfOk result (λ opening. (found : List Seed)
         × (Ok found ≡ seeds_of loaded.model.schema.tables told) × (opening.seeds.items ≡ numbered 0 found))) }
     ensures line { IfSome (F.told files.old) (λ told. IfErr result (IsWhy (IsUnserved told (Ok loaded)))) }
     ensures faulty { IfErr result IsFaulty }
-    ensures answerable { IfOk result (λ opening. IsAnswerable loaded.model) }
     ensures seeds { IfOk result (λ opening. AreSeeds loaded.model.schema.tables opening.seeds.items) }
     ensures later { F.faults files.old ≤ F.faults files.new }
     ensures cause { IfErr result (λ why. why ≡ Why.Files → Rose (F.faults files.old) (F.faults files.new)) }
     ensures never { IfErr result (λ why. why ≡ Why.Store → ⊥) }
     ensures same { F.told files.new ≡ F.told files.old }
 {
-    if !is_answerable(&loaded.model) {
-        return Err(Why::Told(unanswered(alloc)?));
-    }
     match read_seeds(alloc, files, &loaded.model.schema) {
         Ok(seeds) => Ok(Opening {
             loaded,
@@ -354,15 +355,6 @@ fn read_batches<F: Files>(alloc: Global, files: &mut F, loaded: Loaded) -> Resul
         }),
         Err(fault) => Err(project_not(alloc, fault)),
     }
-}
-
-// Whether a model is served: all its tables are stored. What a project loads to is then a resolved model.
-fn is_answerable(m: &Model) -> bool
-    requires { IsResolved m.now }
-    ensures yes { result ≡ true → IsAnswerable m.now }
-    ensures no { result ≡ false → IsAnswerable m.now → ⊥ }
-{
-    m.derived.is_empty()
 }
 
 // The batches of tables, each with its table's number.

@@ -1,6 +1,6 @@
 ghost use Rattle.std.specs.Prelude.{◌≡◌, IfOk};
 ghost use Rattle.lk_serve.specs.declared.replies.Status.{Status};
-ghost use Rattle.lk_serve.specs.Replies.{code_of, fault_reply, line, long_reply, ok_reply, printed_answer, refused_reply, unanswered_reply, usage_reply};
+ghost use Rattle.lk_serve.specs.Replies.{code_of, fault_reply, line, long_reply, ok_reply, printed_answer, refused_reply, usage_reply};
 
 use lk_ask::AskFault;
 use lk_reply::print_refusal;
@@ -69,13 +69,6 @@ pub fn fault_found(alloc: Global, fault: &FaultLine) -> Result<Reply, NoMemory>
         body: Bytes::from_slice(alloc, line.as_bytes())?,
         status: Status::Faulty,
     })
-}
-
-/// The line on a model over which no query is answered (Z1).
-pub fn unanswered(alloc: Global) -> Result<Reply, NoMemory>
-    ensures { IfOk result (λ reply. reply ≡ unanswered_reply) }
-{
-    line_reply(alloc, b"Z1 - 0 - -", Status::Faulty)
 }
 
 /// The refusal of an input that is too long for a query's body (H3).

@@ -1,7 +1,8 @@
-ghost use Rattle.std.specs.Prelude.{◌≡◌, ◌≤◌, IfSome};
+ghost use Rattle.std.specs.Prelude.{◌≡◌, ◌≤◌, [], IfSome};
 ghost use Rattle.lk_io.specs.Causes.{Rose};
+ghost use Rattle.lk_edition.specs.Histories.{Stands};
 ghost use Rattle.lk_edition.specs.Offices.{Begins, standing_in};
-ghost use Rattle.lk_session.specs.Runs.{IsSession};
+ghost use Rattle.lk_session.specs.Recorded.{IsRecorded};
 ghost use Rattle.lk_session.specs.Servers.{server};
 ghost use Rattle.lk_session.specs.Steps.{NeverFall, keeper_in};
 ghost use Rattle.lk_session.specs.declared.ended.Ended.{Ended};
@@ -35,8 +36,9 @@ fn serve_requests<K: Keeper, I: Source, O: Sink, C: Clock>(
     out: &mut O,
     clock: &mut C,
 ) -> Ended
-    ensures run { IfSome (I.left input.old) (λ bytes. IsSession
-        (server (standing_in office.old) (K.held (keeper_in office.old)) (K.faults (keeper_in office.old)) (C.moments clock.old)) bytes
+    requires { Stands (standing_in office.old) [] }
+    ensures run { IfSome (I.left input.old) (λ bytes. IsRecorded
+        (server (standing_in office.old) (K.held (keeper_in office.old)) (K.faults (keeper_in office.old)) (C.moments clock.old)) [] bytes
         (O.held out.old) (O.held out.new)
         (server (standing_in office.new) (K.held (keeper_in office.new)) (K.faults (keeper_in office.new)) (C.moments clock.new)) (I.left input.new) result) }
     ensures read { result ≡ Ended.ReadFault → Rose (I.faults input.old) (I.faults input.new) }
@@ -71,6 +73,7 @@ fn serve<K: Keeper, I: Source, O: Sink, C: Clock>(
     out: &mut O,
     clock: &mut C,
 ) -> Ran<K>
+    requires { Stands (standing_in office) [] }
     ensures served { HasEnded (standing_in office)
         (outside (K.held (keeper_in office)) (K.faults (keeper_in office)) (I.left input.old) (O.held out.old) (C.moments clock.old))
         (outside (K.held result.keeper) (K.faults result.keeper) (I.left input.new) (O.held out.new) (C.moments clock.new))

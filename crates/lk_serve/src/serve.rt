@@ -4,6 +4,8 @@ ghost use Rattle.lk_io.specs.Causes.{Rose};
 ghost use Rattle.lk_io.specs.Streams.{AppendsFront};
 ghost use Rattle.lk_edition.specs.Offices.{Begins};
 ghost use Rattle.lk_serve.specs.Checks.{TellsSome};
+ghost use Rattle.lk_serve.specs.Keeping.{IsEmpty};
+ghost use Rattle.lk_serve.specs.Opened.{HasOpened};
 ghost use Rattle.lk_serve.specs.Outcomes.{IsReply};
 ghost use Rattle.lk_serve.specs.Queries as queries;
 ghost use Rattle.lk_serve.specs.Replies.{ComesUnread, code_of, usage_reply};
@@ -53,6 +55,9 @@ pub fn run<F: Files, K: Keeper, I: Source, O: Sink, C: Clock>(
         → HasBegun words.now (F.told files.old) (I.left input.old)
         (next_moment (C.moments clock.old)) (O.held out.old) (O.held out.new) }
     ensures silent { is_script (asked_by words.now) ≡ false → StopsBefore result.status → O.held out.new ≡ O.held out.old }
+    // The input is read where the project has opened.
+    ensures opened { is_script (asked_by words.now) ≡ false → result.status ≡ 3
+        → HasOpened (F.told files.old) IsEmpty (next_moment (C.moments clock.old)) }
     // Words that ask to serve: a session of the server that the files open over what the store held, or the line on why they
     // open none.
     ensures script { is_script (asked_by words.now) ≡ true → HasServed (F.told files.old) (Begins (K.held keeper) (K.handed keeper))
@@ -118,6 +123,7 @@ fn answer<F: Files, I: Source, O: Sink, C: Clock>(
     ensures cut { result ≡ 4 → HasBegun words.now (F.told files.old) (I.left input.old)
         (next_moment (C.moments clock.old)) (O.held out.old) (O.held out.new) }
     ensures silent { StopsBefore result → O.held out.new ≡ O.held out.old }
+    ensures opened { result ≡ 3 → HasOpened (F.told files.old) IsEmpty (next_moment (C.moments clock.old)) }
 
     // A fault of an object comes only where its count rose in this call.
     ensures read { result ≡ 3 → Rose (I.faults input.old) (I.faults input.new) }
@@ -175,6 +181,7 @@ fn reply_to<F: Files, I: Source, C: Clock>(
 ) -> Result<Reply, Stop>
     requires { is_script (asked_by words.now) ≡ false }
     ensures reply { IfOk result (IsReply words.now (F.told files.old) (I.left input.old) (next_moment (C.moments clock.old))) }
+    ensures opened { IfErr result (λ stop. stop ≡ Stop.Input → HasOpened (F.told files.old) IsEmpty (next_moment (C.moments clock.old))) }
     ensures files { HasStopCause Stop.Files (F.faults files.old) (F.faults files.new) result }
     ensures input { HasStopCause Stop.Input (I.faults input.old) (I.faults input.new) result }
     ensures usage { IfOk result (λ reply. reply.status ≡ Status.Usage → asked_by words.now ≡ unknown) }

@@ -20,10 +20,11 @@ use Rattle.lk_http.specs.declared.request.Got.TheVariants.{End, Req}
 use Rattle.lk_http.specs.declared.request.Request.{Request}
 use Rattle.lk_http.specs.declared.request.Target.{Target}
 use Rattle.lk_http.specs.declared.request.Target.TheVariants as target
+use Rattle.lk_session.specs.Recorded.{Recorded, RecordedDoes}
 use Rattle.lk_session.specs.Runs.{AreTurns, IsRun, failures}
-use Rattle.lk_session.specs.Servers.{CheckDoes, IsCommitted, IsRefusal, ItemDoes, LoadDoes, Sent, Server, Store, TargetDoes, call_of, http_reply}
+use Rattle.lk_session.specs.Servers.{CheckDoes, IsCommitted, IsRefusal, ItemDoes, LoadDoes, Sent, Server, Store, TargetDoes, Telling, by_history, call_of, http_reply}
 use Rattle.lk_session.specs.declared.ended.Ended.{Ended}
-use Rattle.lk_session.proofs.ServingLaws.{IsPlain, IsUnsaved, target_plain}
+use Rattle.lk_session.proofs.ServingLaws.{IsPlain, IsPlainTelling, IsUnsaved, history_plain, target_plain}
 
 -- ---- counts never fall
 
@@ -44,12 +45,12 @@ check_later e (Err fault) reply e' store store' does = does.2.saves.later
 check_later e (Ok (Nothing unbuilt)) reply e' store store' does = does.1.saves.later
 check_later e (Ok (new_check p)) reply e' store store' does = committed_later e p reply e' store store' does
 
-target_later : (e : Standing) (now : ℤ) (request : Request) (t : Target) (reply : Reply) (e' : Standing) (store store' : Store)
-    → TargetDoes e now request t reply e' store store' → store.faults ≤ store'.faults
-target_later e now request (target.Query explore) reply e' store store' does = does.1.saves.later
-target_later e now request (target.Load table replace id) reply e' store store' does =
+target_later : (IsTold : Telling) (e : Standing) (now : ℤ) (request : Request) (t : Target) (reply : Reply) (e' : Standing) (store store' : Store)
+    → TargetDoes IsTold e now request t reply e' store store' → store.faults ≤ store'.faults
+target_later IsTold e now request (target.Query explore) reply e' store store' does = does.1.saves.later
+target_later IsTold e now request (target.Load table replace id) reply e' store store' does =
     load_later e (load_planned e (call_of request table replace id)) reply e' store store' does
-target_later e now request target.Check reply e' store store' does = check_later e (check_planned e request.user now) reply e' store store' does
+target_later IsTold e now request target.Check reply e' store store' does = check_later e (check_planned e request.user now) reply e' store store' does
 
 -- ---- a turn
 
@@ -90,15 +91,15 @@ plain_refusal http.Truncated reply none = absurd none
 plain_refusal http.ReadFault reply none = absurd none
 plain_refusal http.NoMemory reply none = absurd none
 
-item_counts : (s : Server) (item : Item) (reply : Reply) (s' : Server) → ItemDoes s item reply s' → Counts s.store.faults (failed reply) s'.store.faults
-item_counts s (Ok End) reply s' none = absurd none
-item_counts s (Ok (Req request)) reply s' (inl does) =
+item_counts : (IsTold : Telling) → IsPlainTelling IsTold → (s : Server) (item : Item) (reply : Reply) (s' : Server) → ItemDoes IsTold s item reply s' → Counts s.store.faults (failed reply) s'.store.faults
+item_counts IsTold plain s (Ok End) reply s' none = absurd none
+item_counts IsTold plain s (Ok (Req request)) reply s' (inl does) =
     request_counts s.store.faults s'.store.faults reply s.store s'.store refl refl
-    (target_later s.standing does.now request request.target reply s'.standing s.store s'.store does.serves)
-    (target_plain s.standing does.now request request.target reply s'.standing s.store s'.store does.serves)
-item_counts s (Ok (Req request)) reply s' (inr forgotten) =
+    (target_later IsTold s.standing does.now request request.target reply s'.standing s.store s'.store does.serves)
+    (target_plain IsTold plain s.standing does.now request request.target reply s'.standing s.store s'.store does.serves)
+item_counts IsTold plain s (Ok (Req request)) reply s' (inr forgotten) =
     plain_counts s.store.faults s'.store.faults reply (ap (λ (r : Reply). r.status == 503) forgotten.is) forgotten.stays.saves.later
-item_counts s (Err fault) reply s' does =
+item_counts IsTold plain s (Err fault) reply s' does =
     plain_counts s.store.faults s'.store.faults reply (plain_refusal fault reply does.0) (subst (λ (k : Server). s.store.faults ≤ k.store.faults) (sym does.1) (omega arith))
 
 -- ---- a run
@@ -106,26 +107,31 @@ item_counts s (Err fault) reply s' does =
 both_count : (before m now a b : ℕ) → Counts before a m → Counts m b now → Counts before (a + b) now
 both_count before m now a b p q = omega (arith, p, q)
 
-turns_count : (before : ℕ) (s : Server) (bytes : List ℕ) (sents : List Sent) (s' : Server) (rest : List ℕ)
-    → AreTurns before s bytes sents s' rest → Counts s.store.faults (failures sents) s'.store.faults
-turns_count before s bytes [] s' rest turns = subst (λ (k : Server). min (s.store.faults + 0) (2 ^ 64 - 1) ≤ k.store.faults) turns.0 (omega arith)
-turns_count before s bytes (sent ∷ more) s' rest (m, left, turn, open_still, turns) =
-    both_count s.store.faults m.store.faults s'.store.faults (failed sent.reply) (failures more)
-    (item_counts s turn.item sent.reply m turn.does) (turns_count (before + 1) m left more s' rest turns)
+turn_counts : (h : Recorded) (item : Item) (reply : Reply) (h' : Recorded) → RecordedDoes h item reply h'
+    → Counts h.server.store.faults (failed reply) h'.server.store.faults
+turn_counts h item reply h' does = item_counts (by_history h.past) (history_plain h.past) h.server item reply h'.server does.0
+
+turns_count : (before : ℕ) (h : Recorded) (bytes : List ℕ) (sents : List Sent) (h' : Recorded) (rest : List ℕ)
+    → AreTurns RecordedDoes before h bytes sents h' rest → Counts h.server.store.faults (failures sents) h'.server.store.faults
+turns_count before h bytes [] h' rest turns =
+    subst (λ (k : Recorded). min (h.server.store.faults + 0) (2 ^ 64 - 1) ≤ k.server.store.faults) turns.0 (omega arith)
+turns_count before h bytes (sent ∷ more) h' rest (m, left, turn, open_still, turns) =
+    both_count h.server.store.faults m.server.store.faults h'.server.store.faults (failed sent.reply) (failures more)
+    (turn_counts h turn.item sent.reply m turn.does) (turns_count (before + 1) m left more h' rest turns)
 
 failures_behind : (front : List Sent) (sent : Sent) → failures (front ++ sent ∷ []) ≡ failures front + failed sent.reply
 failures_behind [] sent = omega arith
 failures_behind (first ∷ more) sent = ap (λ n. failed first.reply + n) (failures_behind more sent) ∙ omega arith
 
 -- as many calls of the store failed as replies say so
-pub run_counts : (s s' : Server) (bytes rest : List ℕ) (sents : List Sent) (how : Ended)
-    → IsRun s bytes sents s' rest how → Counts s.store.faults (failures sents) s'.store.faults
-run_counts s s' bytes rest sents how (inl none) =
-    subst (λ (k : Server). Counts s.store.faults (failures sents) k.store.faults) (sym none.same)
-    (subst (λ l. Counts s.store.faults (failures l) s.store.faults) (sym none.none) (omega arith))
-run_counts s s' bytes rest sents how (inr (inl stopped)) = turns_count 0 s bytes sents s' stopped.left stopped.turns
-run_counts s s' bytes rest sents how (inr (inr closed)) =
-    subst (λ n. Counts s.store.faults n s'.store.faults) (sym (ap failures closed.all ∙ failures_behind closed.front closed.sent))
-    (both_count s.store.faults closed.m.store.faults s'.store.faults (failures closed.front) (failed closed.sent.reply)
-    (turns_count 0 s bytes closed.front closed.m closed.left closed.turns)
-    (item_counts closed.m closed.closes.turn.item closed.sent.reply s' closed.closes.turn.does))
+pub run_counts : (h h' : Recorded) (bytes rest : List ℕ) (sents : List Sent) (how : Ended)
+    → IsRun RecordedDoes h bytes sents h' rest how → Counts h.server.store.faults (failures sents) h'.server.store.faults
+run_counts h h' bytes rest sents how (inl none) =
+    subst (λ (k : Recorded). Counts h.server.store.faults (failures sents) k.server.store.faults) (sym none.same)
+    (subst (λ l. Counts h.server.store.faults (failures l) h.server.store.faults) (sym none.none) (omega arith))
+run_counts h h' bytes rest sents how (inr (inl stopped)) = turns_count 0 h bytes sents h' stopped.left stopped.turns
+run_counts h h' bytes rest sents how (inr (inr closed)) =
+    subst (λ n. Counts h.server.store.faults n h'.server.store.faults) (sym (ap failures closed.all ∙ failures_behind closed.front closed.sent))
+    (both_count h.server.store.faults closed.m.server.store.faults h'.server.store.faults (failures closed.front) (failed closed.sent.reply)
+    (turns_count 0 h bytes closed.front closed.m closed.left closed.turns)
+    (turn_counts closed.m closed.closes.turn.item closed.sent.reply h' closed.closes.turn.does))

@@ -2,5 +2,5 @@ pub mod FailureLaws
 pub mod RunLaws
 pub mod ServingLaws
 pub mod StepLaws
-pub mod TableLaws
 pub mod WayLaws
+pub mod RecordedLaws

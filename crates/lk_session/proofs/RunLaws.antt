@@ -12,24 +12,28 @@ use Rattle.lk_http.specs.Items.{Item, ends}
 use Rattle.lk_http.specs.Replies.{printed_reply}
 use Rattle.lk_http.specs.declared.faults.HttpFault.TheVariants as http
 use Rattle.lk_http.specs.declared.request.Got.TheVariants.{End, Req}
-use Rattle.lk_session.specs.Runs.{AreTurns, Closed, Closes, EndsAt, GoesOut, IsOver, IsSession, IsUnread, ended_by, is_last, printed}
-use Rattle.lk_session.specs.Servers.{IsTurn, Sent, Server}
+use Rattle.lk_session.specs.Runs.{AreTurns, Closed, Closes, Doing, EndsAt, GoesOut, IsOver, IsSession, IsTurn, IsUnread, ended_by, is_last, printed}
+use Rattle.lk_session.specs.Servers.{ItemDoes, Sent, Server, by_edition}
 use Rattle.lk_session.specs.Steps.{Answers, IsSent, IsStep, Reached, Stops, sent_of}
 use Rattle.lk_session.specs.declared.ended.Ended.{Ended}
 use Rattle.lk_session.specs.declared.ended.Ended.TheVariants as ended
+
+-- what an item does, by what the edition has
+abbrev pub does : Doing Server
+does = ItemDoes by_edition
 
 -- ---- turns
 
 -- a turn more behind some turns
 turn_more : (before : ℕ) (s : Server) (bytes : List ℕ) (sents : List Sent) (m : Server) (left : List ℕ) (sent : Sent) (s' : Server) (rest : List ℕ)
-    → AreTurns before s bytes sents m left → IsTurn m left (is_last (before + length sents)) sent s' rest → sent.close ≡ false
-    → AreTurns before s bytes (sents ++ sent ∷ []) s' rest
+    → AreTurns does before s bytes sents m left → IsTurn does m left (is_last (before + length sents)) sent s' rest → sent.close ≡ false
+    → AreTurns does before s bytes (sents ++ sent ∷ []) s' rest
 turn_more before s bytes [] m left sent s' rest turns turn stays =
-    let here : IsTurn m left (is_last before) sent s' rest = subst (λ n. IsTurn m left (is_last n) sent s' rest) (omega arith) turn in
-    let there : IsTurn s left (is_last before) sent s' rest = subst (λ k. IsTurn k left (is_last before) sent s' rest) (sym turns.0) here in
-    (s', rest, subst (λ l. IsTurn s l (is_last before) sent s' rest) (sym turns.1) there, stays, (refl, refl))
+    let here : IsTurn does m left (is_last before) sent s' rest = subst (λ n. IsTurn does m left (is_last n) sent s' rest) (omega arith) turn in
+    let there : IsTurn does s left (is_last before) sent s' rest = subst (λ k. IsTurn does k left (is_last before) sent s' rest) (sym turns.0) here in
+    (s', rest, subst (λ l. IsTurn does s l (is_last before) sent s' rest) (sym turns.1) there, stays, (refl, refl))
 turn_more before s bytes (first ∷ more) m left sent s' rest (k, l, turn_first, stays_first, turns) turn stays =
-    (k, l, turn_first, stays_first, turn_more (before + 1) k l more m left sent s' rest turns (subst (λ n. IsTurn m left (is_last n) sent s' rest) (omega arith) turn) stays)
+    (k, l, turn_first, stays_first, turn_more (before + 1) k l more m left sent s' rest turns (subst (λ n. IsTurn does m left (is_last n) sent s' rest) (omega arith) turn) stays)
 
 -- ---- what goes out
 
@@ -85,9 +89,9 @@ module _ (s : Server) (bytes : List ℕ) (a b c : Option (List ℕ)) (m : Server
     (s' : Server) (left' : Option (List ℕ)) where
   -- the turn that an answer is
   turn_of : (result : Option Ended) (t : Answers m r.rest (is_last count) b c s' left' result)
-      → IsTurn m r.rest (is_last (0 + length r.sents)) (sent_of t.item (is_last count) t.done.reply) s' t.rest
+      → IsTurn does m r.rest (is_last (0 + length r.sents)) (sent_of t.item (is_last count) t.done.reply) s' t.rest
   turn_of result t =
-      subst (λ n. IsTurn m r.rest (is_last n) (sent_of t.item (is_last count) t.done.reply) s' t.rest) (omega (arith, r.many))
+      subst (λ n. IsTurn does m r.rest (is_last n) (sent_of t.item (is_last count) t.done.reply) s' t.rest) (omega (arith, r.many))
       (record { item = t.item; next = t.next; does = t.done.does; closes = refl })
 
   answered_more : (t : Answers m r.rest (is_last count) b c s' left' None) → Reached s bytes a c s' left' (count + 1)
@@ -116,7 +120,7 @@ module _ (s : Server) (bytes : List ℕ) (a b c : Option (List ℕ)) (m : Server
 
   closing : (result how : Ended) (t : Answers m r.rest (is_last count) b c s' left' (Some result))
       → ((sent_of t.item (is_last count) t.done.reply).close ≡ true) × (result ≡ ended_by (is_last count) t.item) ⊎ (result ≡ ended.WriteFault)
-      → Closed s bytes (r.sents ++ sent_of t.item (is_last count) t.done.reply ∷ []) s' t.rest result
+      → Closed does s bytes (r.sents ++ sent_of t.item (is_last count) t.done.reply ∷ []) s' t.rest result
   closing result how t why = record {
     front = r.sents;
     sent = sent_of t.item (is_last count) t.done.reply;
@@ -124,13 +128,13 @@ module _ (s : Server) (bytes : List ℕ) (a b c : Option (List ℕ)) (m : Server
     left = r.rest;
     all = refl;
     turns = r.turns;
-    closes = subst (λ n. Closes (is_last n) m r.rest (sent_of t.item (is_last count) t.done.reply) s' t.rest result) (sym r.many)
+    closes = subst (λ n. Closes does (is_last n) m r.rest (sent_of t.item (is_last count) t.done.reply) s' t.rest result) (sym r.many)
         (record { turn = record { item = t.item; next = t.next; does = t.done.does; closes = refl }; why = why });
   }
 
   ended_answer : (result : Ended) (t : Answers m r.rest (is_last count) b c s' left' (Some result))
       → IsSent b c t.done.reply (ends t.item || is_last count) (ended_by (is_last count) t.item) (Some result)
-      → IsSession s bytes a c s' left' result
+      → IsSession does s bytes a c s' left' result
   ended_answer result t (inl (close, is, out)) = record {
     sents = r.sents ++ sent_of t.item (is_last count) t.done.reply ∷ [];
     rest = t.rest;
@@ -150,24 +154,24 @@ module _ (s : Server) (bytes : List ℕ) (a b c : Option (List ℕ)) (m : Server
   stop_of : (result : Ended) (t : Stops m r.rest b c s' left' (Some result)) → IsOver r.rest t.rest result ⊎ IsUnread r.rest t.rest result
   stop_of result t = subst (λ how. IsOver r.rest t.rest how ⊎ IsUnread r.rest t.rest how) (cc t.is) t.stop
 
-  ended_stop : (result : Ended) (t : Stops m r.rest b c s' left' (Some result)) → IsSession s bytes a c s' left' result
+  ended_stop : (result : Ended) (t : Stops m r.rest b c s' left' (Some result)) → IsSession does s bytes a c s' left' result
   ended_stop result t = record {
     sents = r.sents;
     rest = t.rest;
     left = t.left;
     run = inr (inl (record {
       left = r.rest;
-      turns = subst (λ k. AreTurns 0 s bytes r.sents k r.rest) (sym t.same) r.turns;
+      turns = subst (λ k. AreTurns does 0 s bytes r.sents k r.rest) (sym t.same) r.turns;
       stop = stop_of result t;
     }));
     out = stopped_out r.rest t.rest result a c r.sents (stop_of result t) (subst (λ o. Appends a o (printed r.sents)) (sym t.silent) r.out);
   }
 
-  ended_step : (result : Ended) → IsStep m r.rest (is_last count) b c s' left' (Some result) → IsSession s bytes a c s' left' result
+  ended_step : (result : Ended) → IsStep m r.rest (is_last count) b c s' left' (Some result) → IsSession does s bytes a c s' left' result
   ended_step result (inl t) = ended_answer result t t.done.out
   ended_step result (inr t) = ended_stop result t
 
-  session_ends : (result : Ended) → IfSome left (λ bytes. IsStep m bytes (is_last count) b c s' left' (Some result)) → IsSession s bytes a c s' left' result
+  session_ends : (result : Ended) → IfSome left (λ bytes. IsStep m bytes (is_last count) b c s' left' (Some result)) → IsSession does s bytes a c s' left' result
   session_ends result step = ended_step result (here _ step)
 
 -- ---- where the link tells
@@ -188,12 +192,12 @@ told_next (Some bytes) s m s' a b c left left' count r step = reached_next s byt
 
 pub told_end : (first : Option (List ℕ)) (s m s' : Server) (a b c left left' : Option (List ℕ)) (count : ℕ) (result : Ended)
     → IfSome first (λ bytes. Reached s bytes a b m left count) → IfSome left (λ bytes. IsStep m bytes (is_last count) b c s' left' (Some result))
-    → IfSome first (λ bytes. IsSession s bytes a c s' left' result)
+    → IfSome first (λ bytes. IsSession does s bytes a c s' left' result)
 told_end None s m s' a b c left left' count result r step = tt
 told_end (Some bytes) s m s' a b c left left' count result r step = session_ends s bytes a b c m left count r s' left' result step
 
 -- there was no memory to begin with
-pub told_not_begun : (s : Server) (a left : Option (List ℕ)) → IfSome left (λ bytes. IsSession s bytes a a s left ended.NoMemory)
+pub told_not_begun : (s : Server) (a left : Option (List ℕ)) → IfSome left (λ bytes. IsSession does s bytes a a s left ended.NoMemory)
 told_not_begun s a None = tt
 told_not_begun s a (Some bytes) = record {
   sents = [];

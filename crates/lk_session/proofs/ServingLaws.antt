@@ -3,6 +3,8 @@ use Rattle.std.proofs.Common.{◌≡◌, ◌∙◌, ◌==◌, ◌||◌, ℕ, Boo
 use Rattle.std.specs.Prelude.{ℤ, ◌+◌, nat_lt, ◌⊎◌, ⊤, if◌then◌else◌, Result, Ok, Err, Option, Some, None}
 use Rattle.lk_io.specs.Causes.{Rose}
 use Rattle.lk_types.specs.declared.answer.Reply.{Reply}
+use Rattle.lk_types.specs.declared.bound.Bound.{Bound}
+use Rattle.lk_types.specs.declared.model.Model.{Model}
 use Rattle.lk_semantics.specs.Derived.{explore_at}
 use Rattle.lk_table.specs.Contents.{rows_of_each}
 use Rattle.lk_table.specs.declared.fault.BatchFault.{BatchFault}
@@ -12,6 +14,7 @@ use Rattle.lk_rollup.specs.declared.fault.BuildFault.TheVariants as build
 use Rattle.lk_keeps.specs.Anew.{kept_anew}
 use Rattle.lk_keeps.specs.Keeps.{Keeps}
 use Rattle.lk_ledger.specs.declared.kept.KeptId.{KeptId}
+use Rattle.lk_body.specs.declared.fault.QueryFault.{QueryFault}
 use Rattle.lk_ask.specs.declared.fault.AskFault.{AskFault}
 use Rattle.lk_ask.specs.declared.fault.AskFault.TheVariants as ask
 use Rattle.lk_ask.specs.declared.told.Told.{Told}
@@ -21,8 +24,10 @@ use Rattle.lk_command_reply.specs.declared.fault.CheckFault.{CheckFault}
 use Rattle.lk_command_reply.specs.declared.fault.CheckFault.TheVariants as check
 use Rattle.lk_command_reply.specs.declared.fault.LoadFault.{LoadFault}
 use Rattle.lk_command_reply.specs.declared.fault.LoadFault.TheVariants as load
+use Rattle.lk_state.specs.States.{State}
 use Rattle.lk_state.specs.Tables.{table_named}
 use Rattle.lk_edition.specs.Checks.{check_planned, groups_triggered, over_keeps, over_triggered}
+use Rattle.lk_edition.specs.Histories.{states_of}
 use Rattle.lk_edition.specs.Loads.{into_table, is_loader, load_planned, over_batch, planned, unless_kept}
 use Rattle.lk_edition.specs.Plans.{Planned}
 use Rattle.lk_edition.specs.Standings.{Standing}
@@ -31,12 +36,14 @@ use Rattle.lk_edition.specs.declared.plan.CheckPlan.{CheckPlan}
 use Rattle.lk_edition.specs.declared.plan.CheckPlan.TheVariants.{New as new_check, Nothing}
 use Rattle.lk_edition.specs.declared.plan.LoadPlan.{LoadPlan}
 use Rattle.lk_edition.specs.declared.plan.LoadPlan.TheVariants.{Kept as kept_plan, New}
+use Rattle.lk_answer.specs.Answers.{answered, named, told_at}
+use Rattle.lk_answer.specs.Replies.{replied, tables_at}
+use Rattle.lk_answer.specs.Routes.{routed, tables_from}
 use Rattle.lk_http.specs.Replies.{is_status}
 use Rattle.lk_http.specs.declared.request.Request.{Request}
 use Rattle.lk_http.specs.declared.request.Target.{Target}
 use Rattle.lk_http.specs.declared.request.Target.TheVariants as target
-use Rattle.lk_session.specs.Asking.{replied}
-use Rattle.lk_session.specs.Servers.{CheckDoes, IsCommitted, IsQueried, LoadDoes, Serves, Store, TargetDoes, Tells, call_of}
+use Rattle.lk_session.specs.Servers.{CheckDoes, IsCommitted, IsQueried, LoadDoes, Serves, Store, TargetDoes, Telling, Tells, by_edition, by_history, call_of}
 
 -- ---- statuses
 
@@ -77,17 +84,40 @@ same_status reply other e h = subst (λ (r : Reply). IsPlain r.status) (sym e) h
 
 -- ---- queries
 
-replied_plain : (e : Standing) (csv : Bool) (told : Result Told AskFault) (reply : Reply) → Ok reply ≡ replied e csv told → IsPlain reply.status
-replied_plain e csv (Err fault) reply is = absurd (cc is)
-replied_plain e csv (Ok told) reply is = same_status reply (answer_reply (csv || told.bound.csv) (explore_at e.model told.bound.explore) told e.state.number) (cc is) (refl, refl)
+named_plain : (m : Model) (csv : Bool) (number : ℕ) (told : Result Told AskFault) (reply : Reply) → Ok reply ≡ named m csv number told → IsPlain reply.status
+named_plain m csv number (Err fault) reply is = absurd (cc is)
+named_plain m csv number (Ok told) reply is =
+    same_status reply (answer_reply (csv || told.bound.csv) (explore_at m told.bound.explore) told number) (cc is) (refl, refl)
+
+answered_plain : (e : Standing) (now : ℤ) (bound : Result Bound QueryFault) (reply : Reply) → Ok reply ≡ answered e now false bound → IsPlain reply.status
+answered_plain e now (Err fault) reply is = absurd (cc is)
+answered_plain e now (Ok b) reply is =
+    named_plain e.model false (routed e b).number (told_at e.model now (tables_from e (routed e b).from) b) reply is
+
+replied_plain : (e : Standing) (past : List State) (now : ℤ) (bound : Result Bound QueryFault) (reply : Reply) → Ok reply ≡ replied e past now false bound
+    → IsPlain reply.status
+replied_plain e past now (Err fault) reply is = absurd (cc is)
+replied_plain e past now (Ok b) reply is =
+    named_plain e.model false (routed e b).number (told_at e.model now (tables_at (states_of e past) (routed e b).number) b) reply is
+
+-- what is told by it has a plain status
+abbrev pub IsPlainTelling : Telling → Type 0
+IsPlainTelling IsTold = (e : Standing) (user explore body : List ℕ) (now : ℤ) (reply : Reply) → IsTold e user explore body now (Ok reply) → IsPlain reply.status
+
+pub edition_plain : IsPlainTelling by_edition
+edition_plain e user explore body now reply is = answered_plain e now is.bound reply is.is
+
+pub history_plain : (past : List State) → IsPlainTelling (by_history past)
+history_plain past e user explore body now reply is = replied_plain e past now is.bound reply is.is
 
 told_plain : (told : Result Reply AskFault) (reply : Reply) → ((answer : Reply) → told ≡ Ok answer → IsPlain answer.status) → Tells told reply → IsPlain reply.status
 told_plain (Ok answer) reply h same = same_status reply answer same (h answer refl)
 told_plain (Err fault) reply h tells = same_status reply (refusal_reply fault) tells.1 (ask_status fault)
 
-queried_plain : (e : Standing) (user explore body : List ℕ) (now : ℤ) (reply : Reply) → IsQueried e user explore body now reply → IsPlain reply.status
-queried_plain e user explore body now reply h =
-    told_plain h.told reply (λ answer is. replied_plain e false h.is.told answer (sym is ∙ h.is.is)) h.tells
+queried_plain : (IsTold : Telling) → IsPlainTelling IsTold → (e : Standing) (user explore body : List ℕ) (now : ℤ) (reply : Reply)
+    → IsQueried IsTold e user explore body now reply → IsPlain reply.status
+queried_plain IsTold plain e user explore body now reply h =
+    told_plain h.told reply (λ answer is. plain e user explore body now answer (subst (IsTold e user explore body now) is h.is)) h.tells
 
 -- ---- loads
 
@@ -174,12 +204,12 @@ check_plain e (Ok (new_check p)) reply e' store store' plain does = committed_pl
 
 -- ---- requests
 
-pub target_plain : (e : Standing) (now : ℤ) (request : Request) (t : Target) (reply : Reply) (e' : Standing) (store store' : Store)
-    → TargetDoes e now request t reply e' store store' → IsPlain reply.status ⊎ IsUnsaved reply store store'
-target_plain e now request (target.Query explore) reply e' store store' does = inl (queried_plain e request.user explore request.body now reply does.0)
-target_plain e now request (target.Load table replace id) reply e' store store' does =
+pub target_plain : (IsTold : Telling) → IsPlainTelling IsTold → (e : Standing) (now : ℤ) (request : Request) (t : Target) (reply : Reply) (e' : Standing) (store store' : Store)
+    → TargetDoes IsTold e now request t reply e' store store' → IsPlain reply.status ⊎ IsUnsaved reply store store'
+target_plain IsTold plain e now request (target.Query explore) reply e' store store' does = inl (queried_plain IsTold plain e request.user explore request.body now reply does.0)
+target_plain IsTold plain e now request (target.Load table replace id) reply e' store store' does =
     load_plain e (load_planned e (call_of request table replace id)) reply e' store store' (plan_plain e (call_of request table replace id)) does
-target_plain e now request target.Check reply e' store store' does =
+target_plain IsTold plain e now request target.Check reply e' store store' does =
     check_plain e (check_planned e request.user now) reply e' store store' (checked_plain e request.user now) does
 
 written : (reply : Reply) (store store' : Store) → IsPlain reply.status ⊎ IsUnsaved reply store store' → is_status reply.status ≡ true
@@ -188,5 +218,6 @@ written reply store store' (inr failed) = ap (λ (r : Reply). is_status r.status
 
 -- a reply to a request has a status that is written
 pub served_status : (e : Standing) (now : ℤ) (request : Request) (reply : Reply) (e' : Standing) (store store' : Store)
-    → Serves e now request reply e' store store' → is_status reply.status ≡ true
-served_status e now request reply e' store store' h = written reply store store' (target_plain e now request request.target reply e' store store' h)
+    → Serves by_edition e now request reply e' store store' → is_status reply.status ≡ true
+served_status e now request reply e' store store' h =
+    written reply store store' (target_plain by_edition edition_plain e now request request.target reply e' store store' h)

@@ -17,7 +17,7 @@ use Rattle.lk_http.specs.declared.request.Got.{Got}
 use Rattle.lk_http.specs.declared.request.Got.TheVariants.{End, Req}
 use Rattle.lk_http.specs.declared.request.Request.{Request}
 use Rattle.lk_session.specs.Runs.{ended_by, how_ended}
-use Rattle.lk_session.specs.Servers.{IsRefusal, Serves, Server, Stays, Store, http_reply}
+use Rattle.lk_session.specs.Servers.{IsRefusal, Serves, Server, Stays, Store, by_edition, http_reply}
 use Rattle.lk_session.specs.Steps.{IsDone, IsRefused, IsSent, IsStep, reply_or_memory}
 use Rattle.lk_session.specs.declared.ended.Ended.{Ended}
 use Rattle.lk_session.specs.declared.ended.Ended.TheVariants as ended
@@ -36,13 +36,13 @@ stays e store = record { standing = refl; saves = record { held = kept_same stor
 pub served : {E : Type 0} {e e' : Standing} {store store' : Store} {moments moments' : Option (List ℤ)} {request : Request} {last : Bool} {now heard : ℤ}
     {held held' : Option (List ℕ)} {result : Option Ended} (r : Result Reply E)
     → heard ≡ now → IsMomentInYears now → IfSome moments (λ told. slice_get told 0 ≡ Some now) → moments' ≡ option_map later moments
-    → IfOk r (λ reply. Serves e heard request reply e' store store') → OnErr r (Stays e e' store store')
+    → IfOk r (λ reply. Serves by_edition e heard request reply e' store store') → OnErr r (Stays e e' store store')
     → IsSent held held' (reply_or_memory r) (request.close || last) (how_ended last ended.Clean) result
     → IsDone (record { standing = e; store = store; moments = moments }) (Ok (Req request)) last held held'
     (record { standing = e'; store = store'; moments = moments' }) result
 served {e = e} {e' = e'} {store = store} {store' = store'} {request = request} (Ok reply) same years first next serves kept out = record {
   reply = reply;
-  does = inl (record { now = _; years = years; first = first; moments = next; serves = subst (λ n. Serves e n request reply e' store store') same serves });
+  does = inl (record { now = _; years = years; first = first; moments = next; serves = subst (λ n. Serves by_edition e n request reply e' store store') same serves });
   out = out;
 }
 served (Err fault) same years first next serves kept out = record {

@@ -1,4 +1,4 @@
-pub mod Asking
 pub mod Servers
 pub mod Runs
 pub mod Steps
+pub mod Recorded

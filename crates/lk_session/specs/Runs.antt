@@ -1,13 +1,14 @@
 -- A session: the items of a connection's bytes answered in order, one reply each, until it ends. (lookd)
-use Rattle.std.specs.Prelude.{◌≡◌, ◌⊎◌, ℕ, ◌+◌, ◌==◌, Bool, true, false, if◌then◌else◌, List, [], ◌∷◌, ◌++◌, length, Option, Some, Ok, Err}
+use Rattle.std.specs.Prelude.{◌≡◌, ◌⊎◌, ℕ, ◌+◌, ◌==◌, Bool, true, false, ◌||◌, if◌then◌else◌, List, [], ◌∷◌, ◌++◌, length, Option, Some, Ok, Err}
 use Rattle.std.specs.Io.KnownBytes.{Appends}
 use Rattle.std.specs.List.{flat_map}
 use Rattle.lk_io.specs.Streams.{AppendsFront}
-use Rattle.lk_http.specs.Items.{IsNext, Item, at_end}
+use Rattle.lk_types.specs.declared.answer.Reply.{Reply}
+use Rattle.lk_http.specs.Items.{IsNext, Item, at_end, ends}
 use Rattle.lk_http.specs.Replies.{printed_reply}
 use Rattle.lk_http.specs.declared.faults.HttpFault.TheVariants as http
 use Rattle.lk_http.specs.declared.request.Got.TheVariants.{End}
-use Rattle.lk_session.specs.Servers.{IsTurn, Sent, Server}
+use Rattle.lk_session.specs.Servers.{Sent}
 use Rattle.lk_session.specs.declared.ended.Ended.{Ended}
 use Rattle.lk_session.specs.declared.ended.Ended.TheVariants as ended
 
@@ -15,12 +16,23 @@ use Rattle.lk_session.specs.declared.ended.Ended.TheVariants as ended
 abbrev pub is_last : ℕ → Bool
 is_last before = before == 99999
 
+-- what an item does between two replies of a connection: its reply, and what is there behind it. `S` is what is there between replies
+abbrev pub Doing : Type 0 → Type 1
+Doing S = S → Item → Reply → S → Type 0
+
+-- the next item of the bytes is answered; the connection closes after an item that asks so, and after the last reply
+pub record IsTurn {S : Type 0} (Does : Doing S) (s : S) (bytes : List ℕ) (last : Bool) (sent : Sent) (s' : S) (rest : List ℕ) : Type 0 where
+  pub item : Item
+  pub next : IsNext bytes (item, rest)
+  pub does : Does s item sent.reply s'
+  pub closes : sent.close ≡ (ends item || last)
+
 -- after so many replies these follow, each to the next item of the bytes, and the connection stays open
-abbrev pub AreTurns : ℕ → Server → List ℕ → List Sent → Server → List ℕ → Type 0
-AreTurns before s bytes [] s' rest = (s ≡ s') × (bytes ≡ rest)
-AreTurns before s bytes (sent ∷ more) s' rest =
-    (m : Server) × (left : List ℕ) × IsTurn s bytes (is_last before) sent m left × (sent.close ≡ false)
-    × AreTurns (before + 1) m left more s' rest
+abbrev pub AreTurns : {S : Type 0} → Doing S → ℕ → S → List ℕ → List Sent → S → List ℕ → Type 0
+AreTurns Does before s bytes [] s' rest = (s ≡ s') × (bytes ≡ rest)
+AreTurns {S} Does before s bytes (sent ∷ more) s' rest =
+    (m : S) × (left : List ℕ) × IsTurn Does s bytes (is_last before) sent m left × (sent.close ≡ false)
+    × AreTurns Does (before + 1) m left more s' rest
 
 -- ---- the end
 
@@ -60,39 +72,39 @@ abbrev pub ended_by : Bool → Item → Ended
 ended_by last item = how_ended last (closed_by item)
 
 -- a last reply, after which the session ended since its item or the count of replies closed it, or since it could not be written
-pub record Closes (last : Bool) (s : Server) (bytes : List ℕ) (sent : Sent) (s' : Server) (rest : List ℕ) (how : Ended) : Type 0 where
-  pub turn : IsTurn s bytes last sent s' rest
+pub record Closes {S : Type 0} (Does : Doing S) (last : Bool) (s : S) (bytes : List ℕ) (sent : Sent) (s' : S) (rest : List ℕ) (how : Ended) : Type 0 where
+  pub turn : IsTurn Does s bytes last sent s' rest
   pub why : ((sent.close ≡ true) × (how ≡ ended_by last turn.item)) ⊎ (how ≡ ended.WriteFault)
 
 -- ---- the whole
 
 -- there was no memory to begin with
-pub record NotBegun (s : Server) (bytes : List ℕ) (sents : List Sent) (s' : Server) (rest : List ℕ) (how : Ended) : Type 0 where
+pub record NotBegun {S : Type 0} (s : S) (bytes : List ℕ) (sents : List Sent) (s' : S) (rest : List ℕ) (how : Ended) : Type 0 where
   pub none : sents ≡ []
   pub same : s' ≡ s
   pub untaken : rest ≡ bytes
   pub why : how ≡ ended.NoMemory
 
 -- a session that ended without a last reply
-pub record Stopped (s : Server) (bytes : List ℕ) (sents : List Sent) (s' : Server) (rest : List ℕ) (how : Ended) : Type 0 where
+pub record Stopped {S : Type 0} (Does : Doing S) (s : S) (bytes : List ℕ) (sents : List Sent) (s' : S) (rest : List ℕ) (how : Ended) : Type 0 where
   pub left : List ℕ
-  pub turns : AreTurns 0 s bytes sents s' left
+  pub turns : AreTurns Does 0 s bytes sents s' left
   pub stop : IsOver left rest how ⊎ IsUnread left rest how
 
 -- a session that ended with a last reply
-pub record Closed (s : Server) (bytes : List ℕ) (sents : List Sent) (s' : Server) (rest : List ℕ) (how : Ended) : Type 0 where
+pub record Closed {S : Type 0} (Does : Doing S) (s : S) (bytes : List ℕ) (sents : List Sent) (s' : S) (rest : List ℕ) (how : Ended) : Type 0 where
   pub front : List Sent
   pub sent : Sent
-  pub m : Server
+  pub m : S
   pub left : List ℕ
   pub all : sents ≡ front ++ sent ∷ []
-  pub turns : AreTurns 0 s bytes front m left
-  pub closes : Closes (is_last (length front)) m left sent s' rest how
+  pub turns : AreTurns Does 0 s bytes front m left
+  pub closes : Closes Does (is_last (length front)) m left sent s' rest how
 
--- a session over a connection's bytes answers with these replies, leaves the server and the bytes so, and ends so
-abbrev pub IsRun : Server → List ℕ → List Sent → Server → List ℕ → Ended → Type 0
-IsRun s bytes sents s' rest how =
-    NotBegun s bytes sents s' rest how ⊎ (Stopped s bytes sents s' rest how ⊎ Closed s bytes sents s' rest how)
+-- a session over a connection's bytes answers with these replies, leaves what is there and the bytes so, and ends so
+abbrev pub IsRun : {S : Type 0} → Doing S → S → List ℕ → List Sent → S → List ℕ → Ended → Type 0
+IsRun Does s bytes sents s' rest how =
+    NotBegun s bytes sents s' rest how ⊎ (Stopped Does s bytes sents s' rest how ⊎ Closed Does s bytes sents s' rest how)
 
 -- how many replies say that the store failed (K1)
 abbrev pub failures : List Sent → ℕ
@@ -120,9 +132,9 @@ GoesOut ended.WriteFault held held' sents = IsCutOff held held' sents
 GoesOut how held held' sents = Appends held held' (printed sents)
 
 -- a session over what comes in: some replies are those of a run, and are what went out
-pub record IsSession (s : Server) (bytes : List ℕ) (held held' : Option (List ℕ)) (s' : Server) (left' : Option (List ℕ)) (how : Ended) : Type 0 where
+pub record IsSession {S : Type 0} (Does : Doing S) (s : S) (bytes : List ℕ) (held held' : Option (List ℕ)) (s' : S) (left' : Option (List ℕ)) (how : Ended) : Type 0 where
   pub sents : List Sent
   pub rest : List ℕ
   pub left : left' ≡ Some rest
-  pub run : IsRun s bytes sents s' rest how
+  pub run : IsRun Does s bytes sents s' rest how
   pub out : GoesOut how held held' sents

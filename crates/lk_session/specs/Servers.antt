@@ -1,5 +1,5 @@
 -- A server between two replies of a connection, and what the next item of the connection's bytes comes to. (lookd)
-use Rattle.std.specs.Prelude.{◌≡◌, ◌⊎◌, ◌≤◌, ℕ, ℤ, Bool, false, ◌||◌, List, [], ◌∷◌, ◌++◌, codes, Option, Some, None, IfSome, Result, Ok, Err, slice_get}
+use Rattle.std.specs.Prelude.{◌≡◌, ◌⊎◌, ◌≤◌, ℕ, ℤ, Bool, false, List, [], ◌∷◌, ◌++◌, codes, Option, Some, None, IfSome, Result, Ok, Err, slice_get}
 use Rattle.std.specs.Option.{option_map}
 use Rattle.lk_io.specs.Causes.{Rose}
 use Rattle.lk_io.specs.Moments.{later}
@@ -13,6 +13,7 @@ use Rattle.lk_reply.specs.Statuses.{refusal_reply}
 use Rattle.lk_command_reply.specs.Refusals.{check_refusal, load_refusal, unsaved_reply}
 use Rattle.lk_command_reply.specs.declared.fault.CheckFault.{CheckFault}
 use Rattle.lk_command_reply.specs.declared.fault.LoadFault.{LoadFault}
+use Rattle.lk_state.specs.States.{State}
 use Rattle.lk_edition.specs.Checks.{check_planned}
 use Rattle.lk_edition.specs.Checks as checks
 use Rattle.lk_edition.specs.Loads.{load_planned}
@@ -24,7 +25,9 @@ use Rattle.lk_edition.specs.declared.plan.CheckPlan.{CheckPlan}
 use Rattle.lk_edition.specs.declared.plan.CheckPlan.TheVariants.{New as new_check, Nothing}
 use Rattle.lk_edition.specs.declared.plan.LoadPlan.{LoadPlan}
 use Rattle.lk_edition.specs.declared.plan.LoadPlan.TheVariants.{Kept as kept_plan, New}
-use Rattle.lk_http.specs.Items.{IsNext, Item, ends}
+use Rattle.lk_answer.specs.Answers.{IsAnswered}
+use Rattle.lk_answer.specs.Replies.{IsReplied}
+use Rattle.lk_http.specs.Items.{Item}
 use Rattle.lk_http.specs.Replies.{memory_reply}
 use Rattle.lk_http.specs.declared.faults.HttpFault.{HttpFault}
 use Rattle.lk_http.specs.declared.faults.HttpFault.TheVariants as http
@@ -32,7 +35,6 @@ use Rattle.lk_http.specs.declared.request.Got.TheVariants.{End, Req}
 use Rattle.lk_http.specs.declared.request.Request.{Request}
 use Rattle.lk_http.specs.declared.request.Target.{Target}
 use Rattle.lk_http.specs.declared.request.Target.TheVariants as target
-use Rattle.lk_session.specs.Asking.{IsAnswered}
 
 -- what the store holds, as far as it tells, and how many of its calls failed
 pub record Store : Type 0 where
@@ -69,14 +71,26 @@ pub record Stays (e e' : Standing) (store store' : Store) : Type 0 where
   pub standing : e' ≡ e
   pub saves : Saves [] store store'
 
+-- says of what the body of a caller over an explore comes to on an edition at a moment
+abbrev pub Telling : Type 1
+Telling = Standing → List ℕ → List ℕ → List ℕ → ℤ → Result Reply AskFault → Type 0
+
+-- by what the edition has
+abbrev pub by_edition : Telling
+by_edition e user explore body now told = IsAnswered e user explore body now false told
+
+-- by the history of the edition, these states before it: the answer names one snapshot, and holds over that snapshot's tables
+abbrev pub by_history : List State → Telling
+by_history past e user explore body now told = IsReplied e past user explore body now false told
+
 -- the answer of a query, or its refusal
 abbrev pub Tells : Result Reply AskFault → Reply → Type 0
 Tells (Ok answer) reply = reply ≡ answer
 Tells (Err fault) reply = (is_no_memory fault ≡ false) × (reply ≡ refusal_reply fault)
 
-pub record IsQueried (e : Standing) (user explore body : List ℕ) (now : ℤ) (reply : Reply) : Type 0 where
+pub record IsQueried (IsTold : Telling) (e : Standing) (user explore body : List ℕ) (now : ℤ) (reply : Reply) : Type 0 where
   pub told : Result Reply AskFault
-  pub is : IsAnswered e user explore body now false told
+  pub is : IsTold e user explore body now told
   pub tells : Tells told reply
 
 -- the edition is that of the plan, which is saved, or the store failed (K1) and nothing is changed
@@ -104,17 +118,17 @@ abbrev pub call_of : Request → List ℕ → Bool → List ℕ → LoadCall
 call_of request table replace id =
     record { user = request.user; table = table; replace = replace; id = id; body = request.body }
 
-abbrev pub TargetDoes : Standing → ℤ → Request → Target → Reply → Standing → Store → Store → Type 0
-TargetDoes e now request (target.Query explore) reply e' store store' =
-    IsQueried e request.user explore request.body now reply × Stays e e' store store'
-TargetDoes e now request (target.Load table replace id) reply e' store store' =
+abbrev pub TargetDoes : Telling → Standing → ℤ → Request → Target → Reply → Standing → Store → Store → Type 0
+TargetDoes IsTold e now request (target.Query explore) reply e' store store' =
+    IsQueried IsTold e request.user explore request.body now reply × Stays e e' store store'
+TargetDoes IsTold e now request (target.Load table replace id) reply e' store store' =
     LoadDoes e (load_planned e (call_of request table replace id)) reply e' store store'
-TargetDoes e now request target.Check reply e' store store' =
+TargetDoes IsTold e now request target.Check reply e' store store' =
     CheckDoes e (check_planned e request.user now) reply e' store store'
 
 -- what a request at a moment does
-abbrev pub Serves : Standing → ℤ → Request → Reply → Standing → Store → Store → Type 0
-Serves e now request reply e' store store' = TargetDoes e now request request.target reply e' store store'
+abbrev pub Serves : Telling → Standing → ℤ → Request → Reply → Standing → Store → Store → Type 0
+Serves IsTold e now request reply e' store store' = TargetDoes IsTold e now request request.target reply e' store store'
 
 -- ---- what an item comes to
 
@@ -135,12 +149,12 @@ http_reply http.ReadFault = None
 http_reply http.NoMemory = None
 
 -- a request takes the next moment, and does what its target says
-pub record RequestDoes (s : Server) (request : Request) (reply : Reply) (s' : Server) : Type 0 where
+pub record RequestDoes (IsTold : Telling) (s : Server) (request : Request) (reply : Reply) (s' : Server) : Type 0 where
   pub now : ℤ
   pub years : IsMomentInYears now
   pub first : IfSome s.moments (λ told. slice_get told 0 ≡ Some now)
   pub moments : s'.moments ≡ option_map later s.moments
-  pub serves : Serves s.standing now request reply s'.standing s.store s'.store
+  pub serves : Serves IsTold s.standing now request reply s'.standing s.store s'.store
 
 -- memory was refused: a request is answered that, and changes nothing but that it may have taken the next moment
 pub record IsForgotten (s : Server) (reply : Reply) (s' : Server) : Type 0 where
@@ -153,14 +167,7 @@ abbrev pub IsRefusal : Option Reply → Reply → Type 0
 IsRefusal None reply = ⊥
 IsRefusal (Some refusal) reply = (reply ≡ refusal) ⊎ (reply ≡ memory_reply)
 
-abbrev pub ItemDoes : Server → Item → Reply → Server → Type 0
-ItemDoes s (Ok End) reply s' = ⊥
-ItemDoes s (Ok (Req request)) reply s' = RequestDoes s request reply s' ⊎ IsForgotten s reply s'
-ItemDoes s (Err fault) reply s' = IsRefusal (http_reply fault) reply × (s' ≡ s)
-
--- the next item of the bytes is answered; the connection closes after an item that asks so, and after the last reply
-pub record IsTurn (s : Server) (bytes : List ℕ) (last : Bool) (sent : Sent) (s' : Server) (rest : List ℕ) : Type 0 where
-  pub item : Item
-  pub next : IsNext bytes (item, rest)
-  pub does : ItemDoes s item sent.reply s'
-  pub closes : sent.close ≡ (ends item || last)
+abbrev pub ItemDoes : Telling → Server → Item → Reply → Server → Type 0
+ItemDoes IsTold s (Ok End) reply s' = ⊥
+ItemDoes IsTold s (Ok (Req request)) reply s' = RequestDoes IsTold s request reply s' ⊎ IsForgotten s reply s'
+ItemDoes IsTold s (Err fault) reply s' = IsRefusal (http_reply fault) reply × (s' ≡ s)

@@ -8,7 +8,7 @@ use Rattle.lk_http.specs.Items.{IsNext, Item, ends}
 use Rattle.lk_http.specs.Replies.{memory_reply, printed_reply}
 use Rattle.lk_http.specs.declared.faults.HttpFault.{HttpFault}
 use Rattle.lk_session.specs.Runs.{AreTurns, IsOver, IsUnread, ended_by, printed}
-use Rattle.lk_session.specs.Servers.{IsRefusal, ItemDoes, Sent, Server, http_reply}
+use Rattle.lk_session.specs.Servers.{IsRefusal, ItemDoes, Sent, Server, by_edition, http_reply}
 use Rattle.lk_session.specs.declared.ended.Ended.{Ended}
 use Rattle.lk_session.specs.declared.ended.Ended.TheVariants as ended
 
@@ -44,7 +44,7 @@ pub record IsRefused (fault : HttpFault) (last : Bool) (held held' : Option (Lis
 -- an item was answered
 pub record IsDone (s : Server) (item : Item) (last : Bool) (held held' : Option (List ℕ)) (s' : Server) (result : Option Ended) : Type 0 where
   pub reply : Reply
-  pub does : ItemDoes s item reply s'
+  pub does : ItemDoes by_edition s item reply s'
   pub out : IsSent held held' reply (ends item || last) (ended_by last item) result
 
 -- the next item was answered
@@ -74,6 +74,6 @@ pub record Reached (s : Server) (bytes : List ℕ) (held held' : Option (List �
   pub sents : List Sent
   pub rest : List ℕ
   pub left : left' ≡ Some rest
-  pub turns : AreTurns 0 s bytes sents s' rest
+  pub turns : AreTurns (ItemDoes by_edition) 0 s bytes sents s' rest
   pub many : length sents ≡ count
   pub out : Appends held held' (printed sents)

@@ -1,21 +1,25 @@
-ghost use Rattle.std.specs.Prelude.{◌≡◌, ◌⊎◌, ◌≤◌, ◌||◌, [], if◌then◌else◌, IfOk, IfSome, IsSome, Err, None, Ok, OnErr, OnOk, Some, true};
+ghost use Rattle.std.specs.Prelude.{◌≡◌, ◌⊎◌, ◌≤◌, ◌||◌, List, [], if◌then◌else◌, IfOk, IfSome, IsSome, Err, None, Ok, OnErr, OnOk, Some, true};
 ghost use Rattle.std.specs.Io.KnownBytes.{Appends};
 ghost use Rattle.lk_io.specs.Causes.{HasCause, Rose};
 ghost use Rattle.lk_io.specs.Streams.{AppendsFront};
+ghost use Rattle.lk_state.specs.States.{State};
+ghost use Rattle.lk_edition.specs.Histories.{Stands};
 ghost use Rattle.lk_edition.specs.Offices.{standing_in};
 ghost use Rattle.lk_http.specs.Items.{ends};
 ghost use Rattle.lk_http.specs.Replies.{is_status, memory_reply, printed_reply};
 ghost use Rattle.lk_http.specs.Ways.{Comes};
 ghost use Rattle.lk_http.specs.declared.request.Got.TheVariants.{Req};
+ghost use Rattle.lk_session.specs.Recorded.{IsRecorded};
 ghost use Rattle.lk_session.specs.Runs.{IsSession, closed_by, how_ended};
-ghost use Rattle.lk_session.specs.Servers.{http_reply, server};
+ghost use Rattle.lk_session.specs.Servers.{ItemDoes, by_edition, http_reply, server};
 ghost use Rattle.lk_session.specs.Steps.{IsDone, IsRefused, IsSent, IsStep, NeverFall, keeper_in, reply_or_memory};
 ghost use Rattle.lk_session.specs.declared.ended.Ended.{Ended};
 
 use crate::ended::Ended;
 use crate::refusing::refusal_of;
 use crate::serving::serve;
-use lk_edition::Office;
+use lk_answer::answers_are_of_one_snapshot;
+use lk_edition::{Office, checks_keep_the_history, loads_keep_the_history};
 use lk_http::{Conn, Got, HttpFault, Request, read_request, write_memory, write_reply};
 use lk_io::{Clock, Failed, Link};
 use lk_ledger::Keeper;
@@ -27,7 +31,8 @@ use std::alloc::Global;
 const REPLY_LIMIT: u32 = 100_000;
 
 /// Answers the requests of a connection in order, one reply each, until its input ends, a request asks to close, a head can't be
-/// read, 100,000 replies are written, or the link fails. Each whole request with a route takes the clock's next moment. (lookd)
+/// read, 100,000 replies are written, or the link fails. Each whole request with a route takes the clock's next moment. A query is
+/// answered over one snapshot of the server's history, and its reply names that. (lookd)
 pub fn session<K: Keeper, L: Link, C: Clock>(
     alloc: Global,
     office: &mut Office<K>,
@@ -35,13 +40,41 @@ pub fn session<K: Keeper, L: Link, C: Clock>(
     clock: &mut C,
 ) -> Ended
     // Over bytes that the link tells, what went out are the replies of a run from the office as it was to the office as it is.
-    ensures run { IfSome (L.left link.old) (λ bytes. IsSession
+    ensures answers { IfSome (L.left link.old) (λ bytes. IsSession (ItemDoes by_edition)
         (server (standing_in office.old) (K.held (keeper_in office.old)) (K.faults (keeper_in office.old)) (C.moments clock.old)) bytes
+        (L.held link.old) (L.held link.new)
+        (server (standing_in office.new) (K.held (keeper_in office.new)) (K.faults (keeper_in office.new)) (C.moments clock.new)) (L.left link.new) result) }
+    // Where its edition is that of a history, they are those of a run over that history, which goes on with the office.
+    ensures run { (past : List State) → Stands (standing_in office.old) past → IfSome (L.left link.old) (λ bytes. IsRecorded
+        (server (standing_in office.old) (K.held (keeper_in office.old)) (K.faults (keeper_in office.old)) (C.moments clock.old)) past bytes
         (L.held link.old) (L.held link.new)
         (server (standing_in office.new) (K.held (keeper_in office.new)) (K.faults (keeper_in office.new)) (C.moments clock.new)) (L.left link.new) result) }
     ensures read { result ≡ Ended.ReadFault → Rose (L.Source.faults link.old) (L.Source.faults link.new) }
     ensures write { result ≡ Ended.WriteFault → Rose (L.Sink.faults link.old) (L.Sink.faults link.new) }
     // No count of faults falls, and the link comes to where it is by pulls and puts alone.
+    ensures counts { NeverFall (K.faults (keeper_in office.old)) (K.faults (keeper_in office.new))
+        (L.Source.faults link.old) (L.Source.faults link.new) (L.Sink.faults link.old) (L.Sink.faults link.new) }
+    ensures ways { Comes (λ a b. L.Source.keeps_at_pull a b ⊎ L.Sink.keeps_at_put a b) link.old link.new }
+{
+    loads_keep_the_history();
+    checks_keep_the_history();
+    answers_are_of_one_snapshot();
+    converse(alloc, office, link, clock)
+}
+
+// Answers the requests of a connection by what the office's edition has.
+fn converse<K: Keeper, L: Link, C: Clock>(
+    alloc: Global,
+    office: &mut Office<K>,
+    link: &mut L,
+    clock: &mut C,
+) -> Ended
+    ensures run { IfSome (L.left link.old) (λ bytes. IsSession (ItemDoes by_edition)
+        (server (standing_in office.old) (K.held (keeper_in office.old)) (K.faults (keeper_in office.old)) (C.moments clock.old)) bytes
+        (L.held link.old) (L.held link.new)
+        (server (standing_in office.new) (K.held (keeper_in office.new)) (K.faults (keeper_in office.new)) (C.moments clock.new)) (L.left link.new) result) }
+    ensures read { result ≡ Ended.ReadFault → Rose (L.Source.faults link.old) (L.Source.faults link.new) }
+    ensures write { result ≡ Ended.WriteFault → Rose (L.Sink.faults link.old) (L.Sink.faults link.new) }
     ensures counts { NeverFall (K.faults (keeper_in office.old)) (K.faults (keeper_in office.new))
         (L.Source.faults link.old) (L.Source.faults link.new) (L.Sink.faults link.old) (L.Sink.faults link.new) }
     ensures ways { Comes (λ a b. L.Source.keeps_at_pull a b ⊎ L.Sink.keeps_at_put a b) link.old link.new }

@@ -2,15 +2,11 @@
 #![tactic(auto)]
 
 mod answering;
-mod asking;
 mod ended;
 mod laws;
 mod refusing;
-mod scratch;
 mod serving;
 
 pub use answering::session;
-pub use asking::ask;
 pub use ended::Ended;
 pub use laws::failed_saves_are_counted;
-pub use scratch::Scratch;

@@ -3,11 +3,10 @@ ghost use Rattle.lk_val.specs.Years.{IsMomentInYears};
 ghost use Rattle.lk_edition.specs.Checks.{check_planned};
 ghost use Rattle.lk_edition.specs.Loads.{load_planned};
 ghost use Rattle.lk_edition.specs.Offices.{IsPlanned, standing_in};
-ghost use Rattle.lk_session.specs.Servers.{CheckDoes, IsCommitted, IsQueried, LoadDoes, Serves, Stays, store_of};
+ghost use Rattle.lk_session.specs.Servers.{CheckDoes, IsCommitted, IsQueried, LoadDoes, Serves, Stays, by_edition, store_of};
 ghost use Rattle.lk_session.specs.Steps.{keeper_in};
 
-use crate::asking::ask;
-use crate::scratch::Scratch;
+use lk_answer::{Scratch, ask};
 use lk_ask::AskFault;
 use lk_command_reply::{
     CheckFault, LoadFault, reply_check_refusal, reply_load_refusal, reply_unsaved,
@@ -28,7 +27,7 @@ pub(crate) fn serve<K: Keeper>(
     now: i64,
 ) -> Result<Reply, NoMemory>
     requires moment { IsMomentInYears now }
-    ensures served { IfOk result (λ reply. Serves (standing_in office.old) now request reply (standing_in office.new)
+    ensures served { IfOk result (λ reply. Serves by_edition (standing_in office.old) now request reply (standing_in office.new)
         (store_of (K.held (keeper_in office.old)) (K.faults (keeper_in office.old)))
         (store_of (K.held (keeper_in office.new)) (K.faults (keeper_in office.new)))) }
     ensures stays { OnErr result (Stays (standing_in office.old) (standing_in office.new)
@@ -68,7 +67,7 @@ fn query<K: Keeper>(
     now: i64,
 ) -> Result<Reply, NoMemory>
     requires { IsMomentInYears now }
-    ensures { IfOk result (IsQueried (standing_in office.now) user.now explore.now body.now now) }
+    ensures { IfOk result (IsQueried by_edition (standing_in office.now) user.now explore.now body.now now) }
 {
     let edition = office.edition()?;
     let mut scratch = Scratch::new();

@@ -24,4 +24,12 @@ explore: order_items {
     relationship: many_to_one
     sql_on: ${inventory_items.product_id} = ${products.id} ;;
   }
+
+  aggregate_table: sales_by_day {
+    query: {
+      dimensions: [products.brand, products.category, users.region, orders.created_date]
+      measures: [order_items.count, order_items.total_sale_price, order_items.average_sale_price]
+    }
+    materialization: { datagroup_trigger: new_sales }
+  }
 }

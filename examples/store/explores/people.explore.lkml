@@ -1,6 +1,11 @@
 explore: users {
   label: "Customers"
 
+  join: customer_facts {
+    relationship: one_to_one
+    sql_on: ${users.id} = ${customer_facts.user_id} ;;
+  }
+
   join: orders {
     relationship: one_to_many
     sql_on: ${orders.user_id} = ${users.id} ;;
@@ -29,5 +34,14 @@ explore: events {
   join: users {
     relationship: many_to_one
     sql_on: ${events.user_id} = ${users.id} ;;
+  }
+}
+
+explore: session_facts {
+  label: "Sessions"
+
+  join: users {
+    relationship: many_to_one
+    sql_on: ${session_facts.user_id} = ${users.id} ;;
   }
 }

@@ -20,4 +20,5 @@ view: events {
   measure: purchase_count { type: count filters: [is_purchase: "yes"] }
   measure: purchases_per_session { type: number sql: 1.0 * ${purchase_count} / NULLIF(${session_count}, 0) ;; }
   measure: longest_session { type: max sql: ${sequence_number} ;; }
+  measure: first_event_at { type: min sql: ${created_raw} ;; }
 }

@@ -19,4 +19,6 @@ view: orders {
   measure: total_shipping_cost { type: sum sql: ${shipping_cost} ;; }
   measure: average_shipping_cost { type: average sql: ${shipping_cost} ;; }
   measure: dearest_shipping { type: max sql: ${shipping_cost} ;; }
+  measure: first_order_at { type: min sql: ${created_raw} ;; }
+  measure: latest_order_at { type: max sql: ${created_raw} ;; }
 }

@@ -3,7 +3,7 @@ use Rattle.lk_history.proofs.laws.sessions_accept_steps.Goals as goal
 
 pub returns : goal.returns
 returns c = record {
-  accepted = λ s last bytes rest sents how run. run_of s last bytes rest sents how run;
-  opens_again = λ s last bytes rest sents how kept run told named is.
-      opens_last c.stores_hold_the_last_state.ensures s last kept (run_of s last bytes rest sents how run) told named is;
+  accepted = λ h last bytes rest sents how run. run_of h last bytes rest sents how run;
+  opens_again = λ h last bytes rest sents how kept run told named is.
+      opens_last c.stores_hold_the_last_state.ensures h.server last.server kept (run_of h last bytes rest sents how run) told named is;
 }

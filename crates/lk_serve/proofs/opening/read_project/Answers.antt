@@ -1,8 +1,14 @@
+use Rattle.std.proofs.Common.{◌≡◌, sym, subst}
+use Rattle.std.proofs.lemmas.Result.{IfOk-weaker}
+use Rattle.lk_resolve.specs.declared.loading.Loaded.{Loaded}
+use Rattle.lk_semantics.specs.Resolved.{IsResolved}
 use Rattle.lk_loaded_laws.proofs.LoadedLaws.{read_model_resolved}
 use Rattle.lk_serve.proofs.opening.read_project.Goals as goal
 
 -- what is loaded comes from texts, so its model is resolved
-pub read_batches-requires : goal.read_batches-requires
-read_batches-requires g c =
+pub returns-in-Ok-clause-resolved : goal.returns-in-Ok-clause-resolved
+returns-in-Ok-clause-resolved g c =
     let read = c.in-Ok.ensures.read in
-    read_model_resolved read.project c.in-Ok.loaded read.are_read read.is_loaded
+    let resolved = read_model_resolved read.project c.in-Ok.loaded read.are_read read.is_loaded in
+    IfOk-weaker c.read_batches.result (λ opening. opening.loaded ≡ c.in-Ok.loaded) (λ opening. IsResolved opening.loaded.model)
+    (λ opening is. subst (λ (loaded : Loaded). IsResolved loaded.model) (sym is) resolved) c.read_batches.ensures.loaded

@@ -3,11 +3,11 @@ use Rattle.std.specs.List.{enumerate_from}
 use Rattle.lk_types.specs.declared.explore.Explore.{Explore}
 use Rattle.lk_semantics.specs.Derived.{explore_at}
 use Rattle.lk_semantics.specs.Rollups.{no_rollup, rollup_at}
+use Rattle.lk_fill.proofs.NumberedLaws.{next_numbered}
 use Rattle.lk_keeps.specs.Anew.{rollup_anew}
 use Rattle.lk_keeps.specs.Keeps.{sources_over}
 use Rattle.lk_keeps.specs.Large.{large_rollups}
 use Rattle.lk_keeps.specs.Steps.{large_among, rollups_anew}
-use Rattle.lk_keeps.proofs.ListLaws.{next_numbered}
 use Rattle.lk_keeps.proofs.MakingLaws.{part_made, rollups_next}
 use Rattle.lk_keeps.proofs.making.Making.rollups_of.Goals as goal
 

@@ -1,0 +1,32 @@
+ghost use Rattle.std.specs.Prelude.{◌≡◌, ℕ, ℤ, Bool, List, [], Result};
+ghost use Rattle.lk_types.specs.declared.answer.Reply.{Reply};
+ghost use Rattle.lk_types.specs.declared.bound.Bound.{Bound};
+ghost use Rattle.lk_ask.specs.declared.fault.AskFault.{AskFault};
+ghost use Rattle.lk_state.specs.States.{State};
+ghost use Rattle.lk_edition.specs.Histories.{Stands};
+ghost use Rattle.lk_edition.specs.Standings.{Standing};
+ghost use Rattle.lk_answer.specs.Answers.{IsAnswered};
+ghost use Rattle.lk_answer.specs.Replies.{IsReplied};
+ghost use Rattle.lk_answer.specs.Routes.{routed};
+
+use lk_query::bound_bodies_are_determined;
+
+/// What a query is answered on an edition holds over the tables of one snapshot of the edition's history, the one that the reply
+/// names. A law: it computes nothing. (lookd)
+pub fn answers_are_of_one_snapshot()
+    ensures { (e : Standing) (past : List State) (user explore body : List ℕ) (now : ℤ) (csv : Bool) (r : Result Reply AskFault)
+        → Stands e past → IsAnswered e user explore body now csv r → IsReplied e past user explore body now csv r }
+{}
+
+/// On a history of one state each query's route names that state. A law: it computes nothing.
+pub fn one_state_is_named()
+    ensures { (e : Standing) (b : Bound) → Stands e [] → (routed e b).number ≡ e.state.number }
+{}
+
+/// A caller's body is replied one thing on a history. A law: it computes nothing.
+pub fn bodies_are_replied_one_thing()
+    ensures { (e : Standing) (past : List State) (user explore body : List ℕ) (now : ℤ) (csv : Bool) (r s : Result Reply AskFault)
+        → IsReplied e past user explore body now csv r → IsReplied e past user explore body now csv s → r ≡ s }
+{
+    bound_bodies_are_determined();
+}

@@ -1,0 +1,4 @@
+mod ComponentLaws
+mod GatheringLaws
+mod RegroupedLaws
+mod SourceLaws

@@ -1,0 +1,4 @@
+pub mod FieldSources
+pub mod Had
+pub mod ComponentParts
+pub mod Regroupings

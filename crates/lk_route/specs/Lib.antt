@@ -1,0 +1,4 @@
+pub mod Roles
+pub mod Ready
+pub mod Fits
+pub mod Routes
