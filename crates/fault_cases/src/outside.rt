@@ -1,8 +1,8 @@
 // What stands around a run. The fields of `outside` are `input 1 fails`, `output 2 fails` and `store 0 fails`, which let a call
-// fail, counted from 0; `room of 20 bytes` for the output; `store of 3 loads`, of one row each, whose batches are gone; `batch
-// TABLE of TEXT`, one load more of one row, whose batch is there; and `store at 9`, the store's number in place of how many loads
-// there are. The fields of files are `PATH = TEXT`, in place of a file that stands there, `PATH` alone, which takes it away, and
-// `call 3 fails`.
+// fail, counted from 0; `clock of 60 seconds`, so many between a moment and the next; `room of 20 bytes` for the output; `store of
+// 3 loads`, of one row each, whose batches are gone; `batch TABLE of TEXT`, one load more of one row, whose batch is there; and
+// `store at 9`, the store's number in place of how many loads there are. The fields of files are `PATH = TEXT`, in place of a file
+// that stands there, `PATH` alone, which takes it away, and `call 3 fails`.
 
 use crate::fault::CaseFault;
 use crate::fields::{bytes_of, failing, number_in, parted};
@@ -13,6 +13,12 @@ use std::alloc::Global;
 
 // The most bytes that a run writes, where no field says otherwise.
 const ROOM: u64 = 65_536;
+
+// How many moments a clock shows before its last.
+const MOMENTS: usize = 7;
+
+// The most seconds between two moments of a clock.
+const A_YEAR: u64 = 31_536_000;
 
 /// A folder of these files.
 pub fn files_of(alloc: Global, fields: &str) -> Result<MemFiles, CaseFault> {
@@ -50,10 +56,18 @@ pub fn output_of(alloc: Global, outside: &str) -> Result<MemSink, CaseFault> {
     Ok(MemSink::new(alloc, room as usize, failing)?)
 }
 
-/// A clock that shows one moment, in seconds from 1970-01-01 00:00:00 UTC.
-pub fn clock_at(alloc: Global, now: i64) -> Result<MemClock, NoMemory> {
+/// A clock that shows moments in seconds from 1970-01-01 00:00:00 UTC, so many seconds after one another as `outside` says, or all
+/// the same.
+pub fn clock_at(alloc: Global, outside: &str, now: i64) -> Result<MemClock, NoMemory> {
+    let between = number_in(outside, "clock of ", " seconds").unwrap_or(0);
+    let seconds = between.min(A_YEAR) as i64;
     let mut moments = Items::new(alloc);
-    moments.push(now)?;
+    let mut moment = now;
+    for _more in 0..MOMENTS {
+        moments.push(moment)?;
+        moment = moment.saturating_add(seconds);
+    }
+    moments.push(moment)?;
     Ok(MemClock::new(moments))
 }
 

@@ -3,7 +3,7 @@ use crate::fault::CaseFault;
 use crate::outside::{clock_at, files_of, input_of, keeper_of, output_of};
 use crate::printed::{add_batches, answer_of, on_one_line};
 use lk_io::{MemClock, MemFiles, MemSink, MemSource};
-use lk_keep::{Keeper, MemKeeper};
+use lk_keep::{Keeper, Kept, MemKeeper};
 use lk_serve::{Ran, run};
 use lk_val::{Items, NoMemory, Text};
 use std::alloc::Global;
@@ -56,7 +56,7 @@ fn run_words(
 ) -> Result<u8, CaseFault> {
     let words = texts_of(alloc, words)?;
     let mut files = folder_of(alloc, base, fields)?;
-    let mut clock = clock_at(alloc, base.now)?;
+    let mut clock = clock_at(alloc, base.outside.as_str(), base.now)?;
     let keeper = keeper_of(alloc, base.outside.as_str())?;
     let mut ran = run_over(
         alloc,
@@ -102,7 +102,7 @@ fn folder_of(alloc: Global, base: &Base, fields: &str) -> Result<MemFiles, CaseF
 // Tells what a store holds: its number, how many loads and batches, how many of its calls failed, and the batches.
 fn tell_store(alloc: Global, base: &mut Base, keeper: &mut MemKeeper) -> Result<(), CaseFault> {
     let failed = keeper.faults();
-    let kept = keeper.load_all(alloc).ok().ok_or(CaseFault::NoSuchCase)?;
+    let kept = all_of(alloc, keeper)?;
     let (number, loads, batches) = (kept.number, kept.ids.len(), kept.chunks.len());
     let told = format!(in alloc; "{number}: {loads} loads, {batches} batches, {failed} failed")?;
     base.kept = Text::from_string(told);
@@ -110,4 +110,12 @@ fn tell_store(alloc: Global, base: &mut Base, keeper: &mut MemKeeper) -> Result<
     add_batches(alloc, kept.chunks.as_slice(), &mut told)?;
     base.batches = on_one_line(alloc, told.as_str())?;
     Ok(())
+}
+
+// All that a store holds, also where the call that tells it is one that fails.
+fn all_of(alloc: Global, keeper: &mut MemKeeper) -> Result<Kept, CaseFault> {
+    match keeper.load_all(alloc) {
+        Ok(kept) => Ok(kept),
+        Err(_) => keeper.load_all(alloc).ok().ok_or(CaseFault::NoSuchCase),
+    }
 }

@@ -1,2 +1,3 @@
 pub mod RouteLaws
+pub mod RollupLaws
 pub mod AnswerLaws

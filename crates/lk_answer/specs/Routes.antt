@@ -1,34 +1,23 @@
 -- Where a query is answered. (lookd)
-use Rattle.std.specs.Prelude.{◌≡◌, ◌<◌, ℕ, true, List, [], length, map, slice_index_or}
-use Rattle.lk_types.specs.Tables.{Rows}
+use Rattle.std.specs.Prelude.{◌≡◌, ◌<◌, nat_lt, true, length}
 use Rattle.lk_types.specs.declared.answer.Route.{Route}
 use Rattle.lk_types.specs.declared.answer.RouteFrom.{RouteFrom}
 use Rattle.lk_types.specs.declared.answer.RouteFrom.TheVariants as from
 use Rattle.lk_types.specs.declared.bound.Bound.{Bound}
 use Rattle.lk_types.specs.declared.model.Model.{Model}
 use Rattle.lk_semantics.specs.Derived.{explore_at}
-use Rattle.lk_semantics.specs.Rollups.{reached_datagroups, route_to_build}
-use Rattle.lk_table.specs.Contents.{rows_of_each}
-use Rattle.lk_trigger.specs.declared.build.Build.{Build}
+use Rattle.lk_semantics.specs.Rollups.{fits, rollup_at, route_of}
+use Rattle.lk_route.specs.Routes.{built_numbers}
 use Rattle.lk_keeps.specs.Keeps.{persists}
 use Rattle.lk_edition.specs.Standings.{Standing}
 
--- the numbers of the states at which the datagroups were built last
-abbrev pub built_numbers : Standing → List ℕ
-built_numbers e = map (λ (build : Build). build.number) e.builds
-
--- a query is answered over the tables of the build of the datagroup that it reaches, and over the current ones where it reaches none
+-- a query is answered from the aggregate table that fits it, unless it is to be fresh; else over the tables of the build of the datagroup that it reaches; and over the current ones where it reaches none
 abbrev pub routed : Standing → Bound → Route
-routed e b = route_to_build (built_numbers e) e.state.number (reached_datagroups e.model (explore_at e.model b.explore) b.joins)
+routed e b = route_of e.model (built_numbers e.builds) e.state.number b
 
--- the stored tables to which a route leads
-abbrev pub tables_from : Standing → RouteFrom → List Rows
-tables_from e (from.Build g) = slice_index_or e.keeps.tables g []
-tables_from e from.Current = rows_of_each e.state.tables
-tables_from e (from.Rollup r) = rows_of_each e.state.tables
-
--- a route to a datagroup's build is to one that persists a derived table
-abbrev pub LeadsToBuild : Model → RouteFrom → Type 0
-LeadsToBuild m (from.Build g) = (g < length m.datagroups) × (persists m g ≡ true)
-LeadsToBuild m from.Current = Unit {0}
-LeadsToBuild m (from.Rollup r) = Unit {0}
+-- a route to a datagroup's build is to one that persists a derived table, and a route to an aggregate table is to one that fits
+abbrev pub LeadsTo : Model → Bound → RouteFrom → Type 0
+LeadsTo m b (from.Build g) = (g < length m.datagroups) × (persists m g ≡ true)
+LeadsTo m b (from.Rollup r) =
+    (nat_lt r (length (explore_at m b.explore).rollups) ≡ true) × (fits (explore_at m b.explore) (rollup_at (explore_at m b.explore) r) b ≡ true)
+LeadsTo m b from.Current = Unit {0}

@@ -1,21 +1,26 @@
-// A bound query's answer over the tables of its route.
+// A bound query's answer from the rows of its route.
 
-ghost use Rattle.std.specs.Prelude.{◌≡◌, ◌<◌, ◌||◌, [], OnErr, OnOk, Ok, length, slice_index, slice_index_or, true};
+ghost use Rattle.std.specs.Prelude.{◌≡◌, ◌<◌, ◌||◌, [], OnErr, OnOk, Ok, length, nat_lt, slice_index_or, true};
 ghost use Rattle.lk_val.specs.Memory.{IsUnlessMemory};
+ghost use Rattle.lk_semantics.specs.Derived.{explore_at};
 ghost use Rattle.lk_semantics.specs.Resolved.{IsInModel};
 ghost use Rattle.lk_table.specs.Contents.{rows_of_each};
 ghost use Rattle.lk_keeps.specs.Keeps.{persists};
 ghost use Rattle.lk_ask.specs.Asks.{is_no_memory};
-ghost use Rattle.lk_answer.specs.Answers.{IsCountOf, answered, told_at};
-ghost use Rattle.lk_answer.specs.Routes.{LeadsToBuild, built_numbers, routed, tables_from};
+ghost use Rattle.lk_answer.specs.Answers.{IsCountOf, answered, rolled_rows, rows_kept, told_at, told_rolled, told_where};
+ghost use Rattle.lk_answer.specs.Routes.{LeadsTo, routed};
 
 use crate::scratch::Scratch;
 use lk_ask::{
-    AskFault, Told, answer_bound, rows_read_decide_what_is_told, told_queries_are_those_asked,
+    AskFault, Told, answer_bound, rows_read_decide_what_is_told, told_by,
+    told_queries_are_those_asked,
 };
 use lk_edition::Edition;
-use lk_fill::{fill, first_reached, first_tables_reach_first, tables_read, wanted_rows_are_read};
+use lk_fill::{fill, tables_read, wanted_rows_are_read};
+use lk_gather::Counted;
 use lk_keeps::fill_built;
+use lk_regroup::answer_from_rollup;
+use lk_regroup_laws::kept_groups_are_dated;
 use lk_reply::reply_answer;
 use lk_rollup::explore_of;
 use lk_types::{Bound, Reply, Route, RouteFrom};
@@ -39,12 +44,13 @@ pub(crate) fn answer(
     told_queries_are_those_asked();
     let route = route_of(e, &bound);
     let x = explore_of(e.model(), bound.explore);
-    match told_from(alloc, e, route.from, bound, now) {
+    let rolled = rolled_rows(e, bound.explore, route.from);
+    match told_where(alloc, e, route.from, bound, now) {
         Ok(told) => {
             let reply = reply_answer(alloc, x, &told, route.number, is_csv(&told, csv))?;
             *scratch = Scratch {
                 joined_rows: told.visited,
-                rollup_rows: 0,
+                rollup_rows: rolled,
             };
             Ok(reply)
         }
@@ -59,39 +65,28 @@ fn is_csv(told: &Told, csv: bool) -> bool
     csv || told.bound.csv
 }
 
-// The route of a query: to the build of the datagroup that it reaches, or to the current tables.
+// The route of a query: to an aggregate table that fits it, to the build of the datagroup that it reaches, or to the current tables.
 fn route_of(e: &Edition, bound: &Bound) -> Route
     requires { IsInModel e.now.model bound.now }
     ensures route { result ≡ routed e.now bound.now }
-    ensures build { LeadsToBuild e.now.model result.from }
+    ensures leads { LeadsTo e.now.model bound.now result.from }
 {
     e.stands();
-    first_tables_reach_first();
-    let x = explore_of(e.model(), bound.explore);
-    match first_reached(e.groups(), x, bound.joins.as_slice()) {
-        Some(group) => Route {
-            number: built_number(e, group),
-            from: RouteFrom::Build(group),
-        },
-        None => Route {
-            number: e.number(),
-            from: RouteFrom::Current,
-        },
-    }
+    e.ready().route(e.model(), e.builds(), e.number(), bound)
 }
 
-// The number of the state at which a datagroup was built last.
-fn built_number(e: &Edition, group: u32) -> u64
-    ensures { result ≡ slice_index (built_numbers e.now) group }
+// How many rows of an aggregate table are gone over on a route.
+fn rolled_rows(e: &Edition, explore: u32, from: RouteFrom) -> u64
+    ensures { result ≡ rolled_rows e.now.keeps explore from }
 {
-    match e.builds().get(group as usize) {
-        Some(build) => build.number,
-        None => 0,
+    match from {
+        RouteFrom::Rollup(r) => e.keeps().rollup(explore, r).len() as u64,
+        RouteFrom::Build(_) | RouteFrom::Current => 0,
     }
 }
 
-// What a query is told over the tables to which a route leads.
-fn told_from(
+// What a query is told where its route leads.
+fn told_where(
     alloc: Global,
     e: &Edition,
     from: RouteFrom,
@@ -99,15 +94,30 @@ fn told_from(
     now: i64,
 ) -> Result<Told, AskFault>
     requires query { IsInModel e.now.model bound }
-    requires build { LeadsToBuild e.now.model from }
-    ensures { IsUnlessMemory is_no_memory result (told_at e.now.model now (tables_from e.now from) bound) }
+    requires leads { LeadsTo e.now.model bound from }
+    ensures { IsUnlessMemory is_no_memory result (told_where e.now now bound from) }
 {
     match from {
+        RouteFrom::Rollup(r) => told_rolled(alloc, e, r, bound),
         RouteFrom::Build(group) => told_built(alloc, e, group, bound, now),
         RouteFrom::Current => told_currently(alloc, e, bound, now),
-        // No query is routed to an aggregate table so far.
-        RouteFrom::Rollup(_) => told_currently(alloc, e, bound, now),
     }
+}
+
+// What a query is told from the rows of an aggregate table that fits it.
+fn told_rolled(alloc: Global, e: &Edition, r: u32, bound: Bound) -> Result<Told, AskFault>
+    requires query { IsInModel e.now.model bound }
+    requires rollup { nat_lt r (length (explore_at e.now.model bound.explore).rollups) ≡ true }
+    ensures { IsUnlessMemory is_no_memory result
+        (told_rolled (explore_at e.now.model bound.explore) r (rows_kept e.now.keeps bound.explore r) bound) }
+{
+    e.stands();
+    kept_groups_are_dated();
+    let m = e.model();
+    let rows = e.keeps().rollup(bound.explore, r);
+    let answer = answer_from_rollup(alloc, m, r, rows, &bound)?;
+    let x = explore_of(m, bound.explore);
+    told_by(alloc, x, bound, Counted { answer, rows: 0 })
 }
 
 // What a query is told over the tables of a datagroup's build.

@@ -102,8 +102,9 @@ fn explore_of(m: &Model, number: u32) -> &Explore
     &m.explores.as_slice()[number as usize]
 }
 
-// The lines of an answer, or the key that refuses it.
-fn told_by(alloc: Global, x: &Explore, bound: Bound, counted: Counted) -> Result<Told, AskFault>
+/// What a query is told whose answer is this, and comes of so many visible rows: the answer's lines, or the key for which a measure
+/// has two values (Q9). `x` is the explore that the query asks. (lookd)
+pub fn told_by(alloc: Global, x: &Explore, bound: Bound, counted: Counted) -> Result<Told, AskFault>
     ensures { IsUnlessMemory is_no_memory result (told_by x.now bound counted.rows counted.answer) }
 {
     let Counted {

@@ -1,7 +1,7 @@
 ghost use Rattle.std.specs.Prelude.{◌≡◌, ◌+◌, ◌++◌, ◌∷◌, [], IfOk, false, map, option_map};
 ghost use Rattle.std.specs.Arc.{arc_value};
 ghost use Rattle.lk_fill.specs.Orders.{IsDeriveOrder};
-ghost use Rattle.lk_fill.specs.Reached.{groups_reached};
+ghost use Rattle.lk_route.specs.Ready.{IsReadyFor};
 ghost use Rattle.lk_state.specs.Limits.{is_over};
 ghost use Rattle.lk_state.specs.States.{AreTables, sources_at};
 ghost use Rattle.lk_edition.specs.Editions.{standing_of, standing_with, state_of};
@@ -10,6 +10,7 @@ ghost use Rattle.lk_edition.specs.Standings.{IsStanding};
 
 use lk_keeps::Keeps;
 use lk_ledger::KeptId;
+use lk_route::Ready;
 use lk_schema::Users;
 use lk_table::{StoredTables, TableSet, TableVersion, share_tables};
 use lk_trigger::Build;
@@ -26,8 +27,8 @@ pub(crate) struct Base {
     pub(crate) users: Users,
     // An order in which the derived tables can be made.
     pub(crate) order: Items<u32>,
-    // To which datagroup reading each derived table comes first.
-    pub(crate) groups: Items<Option<u32>>,
+    // What is asked of the aggregate tables and the derived tables whenever a query is routed.
+    pub(crate) ready: Ready,
 }
 
 // When each datagroup was built last, and what is kept of the builds: editions share it until a check builds anew.
@@ -85,7 +86,7 @@ impl Edition {
     ) -> Result<Edition, NoMemory>
         requires stands { IsStanding (standing_of (arc_value base) (state_of number tables (map arc_value loads)) (arc_value made)) }
         requires order { IsDeriveOrder (arc_value base).model (arc_value base).order }
-        requires groups { (arc_value base).groups ≡ groups_reached (arc_value base).model }
+        requires ready { IsReadyFor (arc_value base).model (arc_value base).ready }
         ensures { IfOk result (λ edition.
             edition ≡ standing_of (arc_value base) (state_of number tables (map arc_value loads)) (arc_value made)) }
     {
@@ -100,8 +101,8 @@ impl Edition {
         })
     }
 
-    /// What always holds of an edition: queries are answered over its model, its tables are those of the schema, within the
-    /// limits, and each datagroup has a build, of which it keeps what valid tables gave. A law: it computes nothing.
+    /// What always holds of an edition: its model is resolved, its tables are those of the schema, within the limits, and each
+    /// datagroup has a build, of which it keeps what valid tables gave. A law: it computes nothing.
     pub fn stands(&self)
         ensures { IsStanding self.now }
     {
@@ -157,11 +158,11 @@ impl Edition {
         self.base.order.as_slice()
     }
 
-    /// To which datagroup reading each derived table comes first.
-    pub fn groups(&self) -> &[Option<u32>]
-        ensures { result.now ≡ groups_reached self.now.model }
+    /// What is asked of the aggregate tables and the derived tables whenever a query is routed.
+    pub fn ready(&self) -> &Ready
+        ensures { IsReadyFor self.now.model result.now }
     {
-        self.base.groups.as_slice()
+        &self.base.ready
     }
 
     /// What each table of the schema holds, by number.

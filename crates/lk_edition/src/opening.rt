@@ -8,7 +8,7 @@ ghost use Rattle.lk_semantics.specs.Resolved.{IsResolved};
 ghost use Rattle.lk_table.specs.Contents.{rows_of_each};
 ghost use Rattle.lk_trigger.specs.Builds.{built_at};
 ghost use Rattle.lk_fill.specs.Orders.{IsDeriveOrder};
-ghost use Rattle.lk_fill.specs.Reached.{groups_reached};
+ghost use Rattle.lk_route.specs.Ready.{IsReadyFor};
 ghost use Rattle.lk_keeps.specs.Anew.{all_kept};
 ghost use Rattle.lk_keeps.specs.Keeps.{AreKept};
 ghost use Rattle.lk_ledger.specs.declared.kept.KeptId.{KeptId};
@@ -18,10 +18,11 @@ ghost use Rattle.lk_edition.specs.Editions.{standing_of, state_of};
 ghost use Rattle.lk_edition.specs.Openings.{standing_built, standing_opened};
 
 use crate::edition::{Base, Edition, Made};
-use lk_fill::{derive_order, groups_reached};
+use lk_fill::derive_order;
 use lk_keeps::keep_all;
 use lk_ledger::Kept;
 use lk_rollup::BuildFault;
+use lk_route::Ready;
 use lk_schema::Users;
 use lk_state::{OpenFault, loads_of, tables_over};
 use lk_table::TableVersion;
@@ -55,21 +56,21 @@ impl Edition {
     }
 }
 
-// The model and the users, with an order in which the derived tables can be made, and the datagroups that reading them comes to.
+// The model and the users, with an order in which the derived tables can be made, and what is asked whenever a query is routed.
 fn base_of(alloc: Global, model: Model, users: Users) -> Result<Arc<Base>, NoMemory>
     requires { IsResolved model }
     ensures model { IfOk result (λ base. (arc_value base).model ≡ model) }
     ensures users { IfOk result (λ base. (arc_value base).users ≡ users) }
     ensures order { IfOk result (λ base. IsDeriveOrder (arc_value base).model (arc_value base).order) }
-    ensures groups { IfOk result (λ base. (arc_value base).groups ≡ groups_reached (arc_value base).model) }
+    ensures ready { IfOk result (λ base. IsReadyFor (arc_value base).model (arc_value base).ready) }
 {
     let order = derive_order(alloc, &model)?;
-    let groups = groups_reached(alloc, &model)?;
+    let ready = Ready::new(alloc, &model)?;
     let base = Base {
         model,
         users,
         order,
-        groups,
+        ready,
     };
     Ok(Arc::new(alloc, base)?)
 }
@@ -83,7 +84,7 @@ fn edition_over(
 ) -> Result<Edition, OpenFault>
     requires model { IsResolved (arc_value base).model }
     requires order { IsDeriveOrder (arc_value base).model (arc_value base).order }
-    requires groups { (arc_value base).groups ≡ groups_reached (arc_value base).model }
+    requires ready { IsReadyFor (arc_value base).model (arc_value base).ready }
     requires seeds { AreSeeds (arc_value base).model.schema.tables seeds.now }
     requires years { IsMomentInYears now }
     ensures value { IsUnlessMemory is_no_memory result

@@ -22,19 +22,18 @@ use Rattle.lk_keeps.specs.Keeps.{Keeps}
 use Rattle.lk_state.specs.Openings.{Seed, opened}
 use Rattle.lk_state.specs.States.{State}
 use Rattle.lk_state.specs.declared.fault.OpenFault.{OpenFault}
-use Rattle.lk_edition.specs.Offices.{IsOpening}
+use Rattle.lk_edition.specs.Offices.{Begins, IsOpening}
 use Rattle.lk_edition.specs.Openings.{standing_built, standing_opened, standing_over}
 use Rattle.lk_edition.specs.Standings.{Standing}
 use Rattle.lk_answer.specs.Replies.{IsReplied}
 use Rattle.lk_serve.specs.Checks.{IsChecked, IsToldBy}
-use Rattle.lk_serve.specs.Keeping.{IsEmpty}
 use Rattle.lk_serve.specs.Opened.{IsOpened, Opens, OpenedAs, OverFiles, OverLoaded, OverSeeds, numbered, open_line}
 use Rattle.lk_serve.specs.Outcomes.{IsReply, IsReplyTo}
 use Rattle.lk_serve.specs.Queries.{IsAnswered, IsQueried, OverBody, OverEdition, OverOpened, TellsAnswer, small_input}
 use Rattle.lk_serve.specs.Replies.{usage_reply}
 use Rattle.lk_serve.specs.Words.{Asked, asked_by, unknown, check, query, script}
 use Rattle.lk_serve.specs.declared.replies.Reply.{Reply}
-use Rattle.lk_one_reply.specs.Told.{IsTold}
+use Rattle.lk_one_reply.specs.Told.{IsTold, SaysOne}
 
 -- the files are loaded as one thing
 abbrev pub OneLoad : Type 0
@@ -44,6 +43,16 @@ OneLoad = (files : List File) (r s : Result Loaded ProjectFault) → IsTold r �
 abbrev pub OneReplied : Type 0
 OneReplied = (e : Standing) (past : List State) (user explore body : List ℕ) (now : ℤ) (csv : Bool) (r s : Result sent.Reply AskFault)
     → IsReplied e past user explore body now csv r → IsReplied e past user explore body now csv s → r ≡ s
+
+-- a store that tells what it holds hands over at most that
+begun_told : (held : Option Kept) (handed : Kept → Type 0) (kept a : Kept) → held ≡ Some kept → Begins held handed a → a ≡ kept
+begun_told None handed kept a is h = absurd (cc is)
+begun_told (Some holds) handed kept a is h =
+    let same : holds ≡ kept = cc is in
+    h.told ∙ same
+
+pub told_one : (held : Option Kept) (handed : Kept → Type 0) (kept : Kept) → held ≡ Some kept → SaysOne (Begins held handed)
+told_one held handed kept is a b h k = begun_told held handed kept a is h ∙ sym (begun_told held handed kept b is k)
 
 module _ (one_load : OneLoad) (one_told : OneReplied) where
   -- ---- checks
@@ -79,7 +88,7 @@ module _ (one_load : OneLoad) (one_told : OneReplied) where
   one_opened (Err fault) (Err a) (Ok e) h k = absurd k
   one_opened (Err fault) (Err a) (Err b) h k = ap Err (one_line (open_line fault) a b h k)
 
-  module _ (begins : Kept → Type 0) (now : ℤ) (one_kept : (a b : Kept) → begins a → begins b → a ≡ b) where
+  module _ (begins : Kept → Type 0) (now : ℤ) (one_kept : SaysOne begins) where
     over_seeds : (loaded : Loaded) (found : List seeds.Seed) (r s : Result Standing Reply)
         → OverSeeds loaded begins now found r → OverSeeds loaded begins now found s → r ≡ s
     over_seeds loaded found r s h k =
@@ -181,42 +190,42 @@ module _ (one_load : OneLoad) (one_told : OneReplied) where
   over_opened user explore input now (Ok e) a b h k = over_body e user explore now (small_input input) a b h.is k.is
   over_opened user explore input now (Err line) a b h k = h ∙ sym k
 
-  one_queried : (files : List File) (user explore input : List ℕ) (now : ℤ) (a b : Reply)
-      → IsQueried files user explore (Some input) (Some now) a → IsQueried files user explore (Some input) (Some now) b → a ≡ b
-  one_queried files user explore input now a b h k =
-      let h_opened = subst (λ moment. IsOpened files IsEmpty moment h.opened) h.is_now h.is_opened in
-      let k_opened = subst (λ moment. IsOpened files IsEmpty moment k.opened) k.is_now k.is_opened in
-      let same : h.opened ≡ k.opened = one_opening IsEmpty now (λ a b h k. h ∙ sym k) files h.opened k.opened h_opened k_opened in
+  one_queried : (files : List File) (begins : Kept → Type 0) (user explore input : List ℕ) (now : ℤ) (a b : Reply) → SaysOne begins
+      → IsQueried files begins user explore (Some input) (Some now) a → IsQueried files begins user explore (Some input) (Some now) b → a ≡ b
+  one_queried files begins user explore input now a b one_kept h k =
+      let h_opened = subst (λ moment. IsOpened files begins moment h.opened) h.is_now h.is_opened in
+      let k_opened = subst (λ moment. IsOpened files begins moment k.opened) k.is_now k.is_opened in
+      let same : h.opened ≡ k.opened = one_opening begins now one_kept files h.opened k.opened h_opened k_opened in
       over_opened user explore input now k.opened a b
       (subst (λ r. OverOpened user explore (Some input) now r a) same (subst (λ moment. OverOpened user explore (Some input) moment h.opened a) h.is_now h.told))
       (subst (λ moment. OverOpened user explore (Some input) moment k.opened b) k.is_now k.told)
 
   -- ---- words
 
-  one_by : (asked : Asked) (files : List File) (input : List ℕ) (now : ℤ) (a b : Reply)
-      → IsReplyTo asked (Some files) (Some input) (Some now) a → IsReplyTo asked (Some files) (Some input) (Some now) b → a ≡ b
-  one_by unknown files input now a b h k = h ∙ sym k
-  one_by check files input now a b h k = one_checked files a b h k
-  one_by (query user explore) files input now a b h k = one_queried files user explore input now a b h k
-  one_by script files input now a b h k = absurd h
+  one_by : (asked : Asked) (files : List File) (begins : Kept → Type 0) (input : List ℕ) (now : ℤ) (a b : Reply) → SaysOne begins
+      → IsReplyTo asked (Some files) begins (Some input) (Some now) a → IsReplyTo asked (Some files) begins (Some input) (Some now) b → a ≡ b
+  one_by unknown files begins input now a b one_kept h k = h ∙ sym k
+  one_by check files begins input now a b one_kept h k = one_checked files a b h k
+  one_by (query user explore) files begins input now a b one_kept h k = one_queried files begins user explore input now a b one_kept h k
+  one_by script files begins input now a b one_kept h k = absurd h
 
-  pub one_reply : (words : List (List ℕ)) (files : List File) (input : List ℕ) (now : ℤ) (a b : Reply)
-      → IsReply words (Some files) (Some input) (Some now) a → IsReply words (Some files) (Some input) (Some now) b → a ≡ b
+  pub one_reply : (words : List (List ℕ)) (files : List File) (begins : Kept → Type 0) (input : List ℕ) (now : ℤ) (a b : Reply) → SaysOne begins
+      → IsReply words (Some files) begins (Some input) (Some now) a → IsReply words (Some files) begins (Some input) (Some now) b → a ≡ b
   unfolding IsReply
-  one_reply words files input now a b h k = one_by (asked_by words) files input now a b h k
+  one_reply words files begins input now a b one_kept h k = one_by (asked_by words) files begins input now a b one_kept h k
 
   -- ---- as far as the files alone tell
 
   -- wrong words have the usage line, whatever is told
-  pub usage_told : (words : List (List ℕ)) (files : Option (List File)) (input : Option (List ℕ)) (now : Option ℤ) (a : Reply)
-      → asked_by words ≡ unknown → IsReply words files input now a → a ≡ usage_reply
+  pub usage_told : (words : List (List ℕ)) (files : Option (List File)) (begins : Kept → Type 0) (input : Option (List ℕ)) (now : Option ℤ) (a : Reply)
+      → asked_by words ≡ unknown → IsReply words files begins input now a → a ≡ usage_reply
   unfolding IsReply
-  usage_told words files input now a is h = subst (λ asked. IsReplyTo asked files input now a) is h
+  usage_told words files begins input now a is h = subst (λ asked. IsReplyTo asked files begins input now a) is h
 
-  -- a folder whose project does not open has its line, whatever is told of the input and the clock
-  pub line_told : (files : List File) (user explore : List ℕ) (input : Option (List ℕ)) (now : Option ℤ) (moment : ℤ) (line a : Reply)
-      → IsOpened files IsEmpty moment (Err line) → IsQueried files user explore input now a → a ≡ line
-  line_told files user explore input now moment line a opened h =
+  -- a folder whose project does not open over a store has its line, whatever is told of the input and the clock
+  pub line_told : (files : List File) (begins : Kept → Type 0) (user explore : List ℕ) (input : Option (List ℕ)) (now : Option ℤ) (moment : ℤ) (line a : Reply)
+      → SaysOne begins → IsOpened files begins moment (Err line) → IsQueried files begins user explore input now a → a ≡ line
+  line_told files begins user explore input now moment line a one_kept opened h =
       let same : h.opened ≡ Err line =
-      one_opening IsEmpty h.moment (λ a b h k. h ∙ sym k) files h.opened (Err line) h.is_opened (line_then IsEmpty moment h.moment files line opened) in
+      one_opening begins h.moment one_kept files h.opened (Err line) h.is_opened (line_then begins moment h.moment files line opened) in
       subst (λ r. OverOpened user explore input h.moment r a) same h.told

@@ -6,23 +6,24 @@ ghost use Rattle.lk_semantics.specs.Derived.{explore_at};
 ghost use Rattle.lk_semantics.specs.Resolved.{IsInModel, IsResolved};
 ghost use Rattle.lk_semantics.specs.Rollups.{best_rollup, better, fitting, rollup_at, route_of};
 ghost use Rattle.lk_route.specs.Ready.{IsReadyFor};
-ghost use Rattle.lk_route.specs.Routes.{best_with, chosen, route_to};
+ghost use Rattle.lk_route.specs.Routes.{best_with, built_numbers, chosen, route_to};
 
 use crate::ready::Ready;
 use lk_fill::first_reached;
 use lk_rollup::explore_of;
+use lk_trigger::Build;
 use lk_types::{Bound, Explore, Model, Route, RouteFrom};
 
 impl Ready {
     /// Which state answers a query of the model, and from what: unless it is to be fresh, the build of the aggregate table that fits it
     /// and has the fewest dimensions, and of several the first declared; else the build of the persisted derived table that it reads;
-    /// else the current tables. `builds` are the numbers of the datagroups' builds, and `number` is that of the current tables. No row
+    /// else the current tables. `builds` are the datagroups' builds, by number, and `number` is that of the current tables. No row
     /// plays a part, and it takes no memory. (Looker, LookML reference: aggregate_table; lookd)
-    pub fn route(&self, m: &Model, builds: &[u64], number: u64, b: &Bound) -> Route
+    pub fn route(&self, m: &Model, builds: &[Build], number: u64, b: &Bound) -> Route
         requires model { IsResolved m.now }
         requires ready { IsReadyFor m.now self.now }
         requires query { IsInModel m.now b.now }
-        ensures { result ≡ route_of m.now builds.now number b.now }
+        ensures { result ≡ route_of m.now (built_numbers builds.now) number b.now }
     {
         let x = explore_of(m, b.explore);
         match self.chosen(m, b) {
@@ -100,8 +101,8 @@ fn dims_of(x: &Explore, r: u32) -> usize
     }
 }
 
-fn route_to_rollup(x: &Explore, builds: &[u64], r: u32) -> Route
-    ensures { result ≡ record { number = slice_index builds.now (rollup_at x.now r).datagroup; from = from.Rollup r } }
+fn route_to_rollup(x: &Explore, builds: &[Build], r: u32) -> Route
+    ensures { result ≡ record { number = slice_index (built_numbers builds.now) (rollup_at x.now r).datagroup; from = from.Rollup r } }
 {
     Route {
         number: build_of(builds, datagroup_of(x, r)),
@@ -120,8 +121,8 @@ fn datagroup_of(x: &Explore, r: u32) -> u32
 }
 
 // To the build of a datagroup, if there is one, and else to the current tables.
-fn route_to(builds: &[u64], number: u64, group: Option<u32>) -> Route
-    ensures { result ≡ route_to builds.now number group }
+fn route_to(builds: &[Build], number: u64, group: Option<u32>) -> Route
+    ensures { result ≡ route_to (built_numbers builds.now) number group }
 {
     match group {
         Some(group) => Route {
@@ -135,12 +136,12 @@ fn route_to(builds: &[u64], number: u64, group: Option<u32>) -> Route
     }
 }
 
-// The number of a datagroup's build, and 0 where there is none.
-fn build_of(builds: &[u64], group: u32) -> u64
-    ensures { result ≡ slice_index builds.now group }
+// The number of the state at which a datagroup was built, and 0 where it was not.
+fn build_of(builds: &[Build], group: u32) -> u64
+    ensures { result ≡ slice_index (built_numbers builds.now) group }
 {
     match builds.get(group as usize) {
-        Some(number) => *number,
+        Some(build) => build.number,
         None => 0,
     }
 }

@@ -5,7 +5,6 @@ use Rattle.lk_io.specs.declared.files.File.{File}
 use Rattle.lk_ledger.specs.declared.kept.Kept.{Kept}
 use Rattle.lk_edition.specs.Histories.{Stands}
 use Rattle.lk_edition.specs.Standings.{Standing}
-use Rattle.lk_serve.specs.Keeping.{IsEmpty}
 use Rattle.lk_serve.specs.Opened.{HasOpened, IsOpened, IsOpenedNext}
 use Rattle.lk_serve.specs.Openings.{IsWhy}
 use Rattle.lk_serve.specs.Queries.{IsQueried, OverEdition}
@@ -25,24 +24,24 @@ next_is None now first = tt
 next_is (Some told) now first = some_is (slice_get told 0) now first
 
 -- what opens at the moment that the clock gave, over an edition
-pub queried_then : (e : Standing) (user explore : List ℕ) (now : ℤ) (next : Option ℤ) (reply : Reply) → IfSome next (λ moment. now ≡ moment)
-    → (files : Option (List File)) (input : Option (List ℕ)) → IfSome files (λ told. IsOpened told IsEmpty now (Ok e))
-    → OverEdition e user explore input now reply → IfSome files (λ told. IsQueried told user explore input next reply)
-queried_then e user explore now next reply is None input opened h = tt
-queried_then e user explore now next reply is (Some told) input opened h =
+pub queried_then : (begins : Kept → Type 0) (e : Standing) (user explore : List ℕ) (now : ℤ) (next : Option ℤ) (reply : Reply) → IfSome next (λ moment. now ≡ moment)
+    → (files : Option (List File)) (input : Option (List ℕ)) → IfSome files (λ told. IsOpened told begins now (Ok e))
+    → OverEdition e user explore input now reply → IfSome files (λ told. IsQueried told begins user explore input next reply)
+queried_then begins e user explore now next reply is None input opened h = tt
+queried_then begins e user explore now next reply is (Some told) input opened h =
     record { moment = now; is_now = is; opened = Ok e; is_opened = opened; told = h }
 
 -- the line on a project that does not open
-line_then : (user explore : List ℕ) (next : Option ℤ) (input : Option (List ℕ)) (files : List File) (reply : Reply)
-    → IsOpenedNext files IsEmpty next (Err reply) → IsQueried files user explore input next reply
-line_then user explore next input files reply h =
+line_then : (begins : Kept → Type 0) (user explore : List ℕ) (next : Option ℤ) (input : Option (List ℕ)) (files : List File) (reply : Reply)
+    → IsOpenedNext files begins next (Err reply) → IsQueried files begins user explore input next reply
+line_then begins user explore next input files reply h =
     record { moment = h.moment; is_now = h.is_next; opened = Err reply; is_opened = h.is; told = refl }
 
-pub unqueried_then : (user explore : List ℕ) (next : Option ℤ) (input : Option (List ℕ)) (files : Option (List File)) (reply : Reply)
-    → IfSome files (λ told. IsWhy (λ line. IsOpenedNext told IsEmpty next (Err line)) (why.Told reply))
-    → IfSome files (λ told. IsQueried told user explore input next reply)
-unqueried_then user explore next input None reply h = tt
-unqueried_then user explore next input (Some told) reply h = line_then user explore next input told reply h
+pub unqueried_then : (begins : Kept → Type 0) (user explore : List ℕ) (next : Option ℤ) (input : Option (List ℕ)) (files : Option (List File)) (reply : Reply)
+    → IfSome files (λ told. IsWhy (λ line. IsOpenedNext told begins next (Err line)) (why.Told reply))
+    → IfSome files (λ told. IsQueried told begins user explore input next reply)
+unqueried_then begins user explore next input None reply h = tt
+unqueried_then begins user explore next input (Some told) reply h = line_then begins user explore next input told reply h
 
 -- what opens at the moment that a clock gave opens at its next, as far as it tells
 pub opened_next : (begins : Kept → Type 0) (now : ℤ) (next : Option ℤ) (e : Standing) → IfSome next (λ moment. now ≡ moment)
@@ -64,8 +63,8 @@ unopened_next begins now next reason is None h = tt
 unopened_next begins now next reason is (Some told) h = why_next begins now next reason told is h
 
 -- the project had opened where the input stops the run
-pub input_opened : (e : Standing) (now : ℤ) (next : Option ℤ) (files : Option (List File)) (r : Result Reply Stop) → Stands e [] → IfSome next (λ moment. now ≡ moment)
-    → IfSome files (λ told. IsOpened told IsEmpty now (Ok e)) → IfErr r (λ reason. reason ≡ stop.Input → HasOpened files IsEmpty next)
-input_opened e now next files (Ok reply) stands is opened = tt
-input_opened e now next files (Err reason) stands is opened =
-    λ _. record { e = e; stands = stands; is = opened_next IsEmpty now next e is files opened }
+pub input_opened : (begins : Kept → Type 0) (e : Standing) (now : ℤ) (next : Option ℤ) (files : Option (List File)) (r : Result Reply Stop) → Stands e [] → IfSome next (λ moment. now ≡ moment)
+    → IfSome files (λ told. IsOpened told begins now (Ok e)) → IfErr r (λ reason. reason ≡ stop.Input → HasOpened files begins next)
+input_opened begins e now next files (Ok reply) stands is opened = tt
+input_opened begins e now next files (Err reason) stands is opened =
+    λ _. record { e = e; stands = stands; is = opened_next begins now next e is files opened }

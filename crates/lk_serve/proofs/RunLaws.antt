@@ -3,6 +3,7 @@ use Rattle.std.specs.Prelude.{ℕ, ℤ, List, Option, Result}
 use Rattle.lk_io.specs.Streams.{AppendsFront}
 use Rattle.lk_io.specs.declared.files.File.{File}
 use Rattle.lk_include.specs.declared.project.ProjectFault.{ProjectFault}
+use Rattle.lk_ledger.specs.declared.kept.Kept.{Kept}
 use Rattle.lk_resolve.specs.Loading.{IsLoadOf}
 use Rattle.lk_resolve.specs.declared.loading.Loaded.{Loaded}
 use Rattle.lk_serve.specs.Checks.{IsChecked, IsToldBy, TellsSome}
@@ -11,13 +12,13 @@ use Rattle.lk_serve.specs.Queries as queries
 use Rattle.lk_serve.specs.Runs.{HasBegun, HasWritten, HasWrittenCheck, HasWrittenQuery, IsWritten}
 use Rattle.lk_serve.specs.declared.replies.Reply.{Reply}
 
-pub has_written : (words : List (List ℕ)) (files : Option (List File)) (input : Option (List ℕ)) (now : Option ℤ) (old new : Option (List ℕ)) (status : ℕ) (reply : Reply)
-    → IsReply words files input now reply → IsWritten old new reply status → HasWritten words files input now old new status
-has_written words files input now old new status reply is written = record { reply = reply; is_reply = is; written = written }
+pub has_written : (words : List (List ℕ)) (files : Option (List File)) (begins : Kept → Type 0) (input : Option (List ℕ)) (now : Option ℤ) (old new : Option (List ℕ)) (status : ℕ) (reply : Reply)
+    → IsReply words files begins input now reply → IsWritten old new reply status → HasWritten words files begins input now old new status
+has_written words files begins input now old new status reply is written = record { reply = reply; is_reply = is; written = written }
 
-pub has_begun : (words : List (List ℕ)) (files : Option (List File)) (input : Option (List ℕ)) (now : Option ℤ) (old new : Option (List ℕ)) (reply : Reply)
-    → IsReply words files input now reply → AppendsFront old new reply.body → HasBegun words files input now old new
-has_begun words files input now old new reply is begun = record { reply = reply; is_reply = is; begun = begun }
+pub has_begun : (words : List (List ℕ)) (files : Option (List File)) (begins : Kept → Type 0) (input : Option (List ℕ)) (now : Option ℤ) (old new : Option (List ℕ)) (reply : Reply)
+    → IsReply words files begins input now reply → AppendsFront old new reply.body → HasBegun words files begins input now old new
+has_begun words files begins input now old new reply is begun = record { reply = reply; is_reply = is; begun = begun }
 
 pub is_checked : (files : List File) (loaded : Result Loaded ProjectFault) (reply : Reply)
     → IsLoadOf files loaded → IsToldBy loaded reply → IsChecked files reply

@@ -25,9 +25,6 @@ asks_for_a_server words = false
 abbrev pub empty_kept : Kept
 empty_kept = record { number = 0; chunks = []; ids = [] }
 
-abbrev pub IsEmpty : Kept → Type 0
-IsEmpty kept = kept ≡ empty_kept
-
 -- a file exactly for words that ask for a server, and else an empty store in memory, none of whose calls fail
 abbrev pub IsKeeperFor : List (List ℕ) → Held → Type 0
 IsKeeperFor words (held.File keeper) = asks_for_a_server words ≡ true

@@ -5,7 +5,6 @@ use Rattle.lk_val.specs.declared.fault.ModelFault.{ModelFault}
 use Rattle.lk_val.specs.declared.fault.ModelFault.TheVariants as model
 use Rattle.lk_io.specs.declared.files.File.{File}
 use Rattle.lk_types.specs.Printing.{value_text}
-use Rattle.lk_types.specs.declared.model.Model.{Model}
 use Rattle.lk_table.specs.declared.fault.BatchFault.{BatchFault}
 use Rattle.lk_table.specs.declared.fault.BatchFault.TheVariants as batch
 use Rattle.lk_include.specs.Gathering.{file_line}

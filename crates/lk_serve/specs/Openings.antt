@@ -1,5 +1,5 @@
 -- The steps of an opening.
-use Rattle.std.specs.Prelude.{◌≡◌, ◌≤◌, ⊤, ℕ, ◌++◌, ◌∷◌, [], List, Option, Some, None, Result, Ok, Err}
+use Rattle.std.specs.Prelude.{◌≡◌, ◌≤◌, ⊤, ℕ, ◌++◌, ◌∷◌, [], List, Some, None, Result, Ok, Err}
 use Rattle.lk_val.specs.declared.fault.ModelFault.{ModelFault}
 use Rattle.lk_io.specs.Causes.{Rose}
 use Rattle.lk_io.specs.declared.files.File.{File}

@@ -1,4 +1,4 @@
--- The reply to `query`: to a caller's query on an explore, over the edition that a folder's project opens over an empty store. (lookd)
+-- The reply to `query`: to a caller's query on an explore, over the edition that a folder's project opens over what a store hands over. (lookd)
 use Rattle.std.specs.Prelude.{◌≡◌, ◌⊎◌, ℤ, IfSome, nat_le, false, if◌then◌else◌, List, [], length, ℕ, Option, Some, None, Result, Ok, Err, true}
 use Rattle.lk_val.specs.declared.fault.FaultLine.{FaultLine}
 use Rattle.lk_io.specs.declared.files.File.{File}
@@ -8,9 +8,9 @@ use Rattle.lk_types.specs.declared.model.Model.{Model}
 use Rattle.lk_ask.specs.Asks.{is_no_memory}
 use Rattle.lk_ask.specs.declared.fault.AskFault.{AskFault}
 use Rattle.lk_ask.specs.declared.told.Told.{Told}
+use Rattle.lk_ledger.specs.declared.kept.Kept.{Kept}
 use Rattle.lk_edition.specs.Standings.{Standing}
 use Rattle.lk_answer.specs.Replies.{IsReplied}
-use Rattle.lk_serve.specs.Keeping.{IsEmpty}
 use Rattle.lk_serve.specs.Opened.{IsOpened}
 use Rattle.lk_serve.specs.Replies.{ComesUnread, answer_reply, fault_reply, long_reply, printed_answer, refused_reply}
 use Rattle.lk_serve.specs.declared.replies.Reply.{Reply}
@@ -49,20 +49,21 @@ abbrev pub OverOpened : List ℕ → List ℕ → Option (List ℕ) → ℤ → 
 OverOpened user explore input now (Ok e) reply = OverEdition e user explore input now reply
 OverOpened user explore input now (Err line) reply = reply ≡ line
 
--- the files open as something over an empty store at a moment, over which the reply is told at that moment; it is the told one where the clock tells
-pub record IsQueried (files : List File) (user explore : List ℕ) (input : Option (List ℕ)) (now : Option ℤ) (reply : Reply) : Type 0 where
+-- the files open as something over what the store hands over at a moment, over which the reply is told at that moment; it is the told one where
+-- the clock tells
+pub record IsQueried (files : List File) (begins : Kept → Type 0) (user explore : List ℕ) (input : Option (List ℕ)) (now : Option ℤ) (reply : Reply) : Type 0 where
   pub moment : ℤ
   pub is_now : IfSome now (λ told. moment ≡ told)
   pub opened : Result Standing Reply
-  pub is_opened : IsOpened files IsEmpty moment opened
+  pub is_opened : IsOpened files begins moment opened
   pub told : OverOpened user explore input moment opened reply
 
 -- ---- whatever the objects show
 
--- the line of some fault, that the input is too long, a refusal, or an answer
+-- the line of some fault, that the input is too long, a refusal, or an answer that names some snapshot
 abbrev pub TellsSome : Reply → Type 0
 TellsSome reply =
     ((line : FaultLine) × (reply ≡ fault_reply line))
     ⊎ ((reply ≡ long_reply)
     ⊎ (((fault : AskFault) × (is_no_memory fault ≡ false) × (reply ≡ refused_reply fault))
-    ⊎ ((m : Model) × (told : Told) × (reply ≡ answer_reply m told))))
+    ⊎ ((m : Model) × (number : ℕ) × (told : Told) × (reply ≡ answer_reply m number told))))

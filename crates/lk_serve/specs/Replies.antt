@@ -59,6 +59,6 @@ refused_reply fault = record { body = line (refusal_text fault); status = Refuse
 abbrev pub printed_answer : sent.Reply → Reply
 printed_answer answer = record { body = answer.body; status = Done }
 
--- the answer over the tables of the opening, which is snapshot 0
-abbrev pub answer_reply : Model → Told → Reply
-answer_reply m told = record { body = answer_text (explore_at m told.bound.explore) told 0; status = Done }
+-- the answer over the tables of the snapshot of a number
+abbrev pub answer_reply : Model → ℕ → Told → Reply
+answer_reply m number told = record { body = answer_text (explore_at m told.bound.explore) told number; status = Done }

@@ -1,5 +1,5 @@
 -- What `script` does: it opens the server over a folder's project, and serves the requests of the input. (lookd)
-use Rattle.std.specs.Prelude.{◌≡◌, ◌⊎◌, ◌≤◌, ◌==◌, ◌||◌, IsTrue, ℕ, ℤ, List, [], Option, IfSome, Ok, Err}
+use Rattle.std.specs.Prelude.{◌≡◌, ◌⊎◌, ◌≤◌, ◌==◌, ◌||◌, IsTrue, ℕ, ℤ, List, [], Option, IfSome, Err}
 use Rattle.std.specs.Io.KnownBytes.{Appends}
 use Rattle.std.specs.Option.{option_map}
 use Rattle.lk_io.specs.Moments.{later}

@@ -2,13 +2,21 @@
 use Rattle.std.specs.Prelude.{◌≡◌, ℕ, ◌≤◌, Result, IfErr}
 use Rattle.lk_io.specs.Causes.{Rose}
 use Rattle.lk_serve.specs.declared.stops.Stop.{Stop}
-use Rattle.lk_serve.specs.declared.stops.Stop.TheVariants.{Input, Files, Memory}
+use Rattle.lk_serve.specs.declared.stops.Stop.TheVariants.{Input, Store, Files, Memory}
 
--- the status of a run that something outside stopped: 3 the input, 6 memory, 7 the files (lookd)
+-- the status of a run that something outside stopped: 3 the input, 5 the store, 6 memory, 7 the files (lookd)
 abbrev pub stop_code : Stop → ℕ
 stop_code Input = 3
+stop_code Store = 5
 stop_code Memory = 6
 stop_code Files = 7
+
+-- the run stops before the input is read
+abbrev pub ComesFirst : Stop → Type 0
+ComesFirst Input = ⊥
+ComesFirst Store = Unit {0}
+ComesFirst Memory = ⊥
+ComesFirst Files = Unit {0}
 
 -- the run does not stop for this
 abbrev pub NeverStops : {T : Type 0} → Stop → Result T Stop → Type 0

@@ -1,7 +1,7 @@
-ghost use Rattle.std.specs.Prelude.{◌≡◌, IfOk, IfSome, OnSome};
+ghost use Rattle.std.specs.Prelude.{◌≡◌, IfErr, IfOk, IfSome, OnSome};
 ghost use Rattle.std.specs.Io.KnownBytes.{IsAtEnd};
 ghost use Rattle.lk_serve.specs.Queries.{small_input};
-ghost use Rattle.lk_serve.specs.Stops.{HasStopCause, NeverStops};
+ghost use Rattle.lk_serve.specs.Stops.{ComesFirst, HasStopCause};
 ghost use Rattle.lk_serve.specs.declared.stops.Stop.{Stop};
 
 use crate::stops::Stop;
@@ -17,7 +17,7 @@ pub fn read_body<I: Source>(alloc: Global, input: &mut I) -> Result<Option<Bytes
     ensures body { IfOk result (λ body. IfSome (I.left input.old) (λ left. body ≡ small_input left)) }
     ensures whole { IfOk result (λ body. OnSome body (IsAtEnd (I.left input.new))) }
     ensures cause { HasStopCause Stop.Input (I.faults input.old) (I.faults input.new) result }
-    ensures files { NeverStops Stop.Files result }
+    ensures first { IfErr result (λ stop. ComesFirst stop → ⊥) }
 {
     let mut body = Bytes::new(alloc);
     let mut buffer = [0u8; 8192];

@@ -20,6 +20,7 @@ pub fn check<F: Files>(alloc: Global, files: &mut F) -> Result<Reply, Stop>
     ensures same { F.told files.new ≡ F.told files.old }
     ensures cause { HasStopCause Stop.Files (F.faults files.old) (F.faults files.new) result }
     ensures input { NeverStops Stop.Input result }
+    ensures store { NeverStops Stop.Store result }
 {
     match load(alloc, files) {
         Ok(_) => Ok(no_fault(alloc)?),

@@ -33,8 +33,8 @@ pub fn empty_keeper(alloc: Global) -> MemKeeper
     MemKeeper::new(empty_kept(alloc), Items::new(alloc))
 }
 
-/// What a store holds before its first save.
-pub(crate) fn empty_kept(alloc: Global) -> Kept
+// What a store holds before its first save.
+fn empty_kept(alloc: Global) -> Kept
     ensures { result ≡ empty_kept }
 {
     Kept {

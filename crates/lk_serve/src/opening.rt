@@ -1,4 +1,4 @@
-ghost use Rattle.std.specs.Prelude.{◌≡◌, ◌<◌, ◌≤◌, List, [], Err, IfErr, IfOk, IfSome, Ok, OnOk, Some, length, true, false};
+ghost use Rattle.std.specs.Prelude.{◌≡◌, ◌<◌, ◌≤◌, List, [], Err, IfErr, IfOk, IfSome, Ok, OnOk, length};
 ghost use Rattle.std.specs.List.{All};
 ghost use Rattle.std.specs.Option.{option_map};
 ghost use Rattle.lk_io.specs.Causes.{Rose};
@@ -14,15 +14,13 @@ ghost use Rattle.lk_state.specs.declared.fault.OpenFault.{OpenFault};
 ghost use Rattle.lk_edition.specs.Histories.{Stands};
 ghost use Rattle.lk_edition.specs.Offices.{Begins, IsOpening, standing_in};
 ghost use Rattle.lk_session.specs.Steps.{keeper_in};
-ghost use Rattle.lk_serve.specs.Keeping.{IsEmpty};
 ghost use Rattle.lk_serve.specs.Opened.{IsOpened, IsOpenedNext, Opens, numbered, open_fault, open_line, unread_fault, unread_line};
 ghost use Rattle.lk_serve.specs.Openings.{HasProject, HasWhyCause, IsFaulty, IsLine, IsProject, IsUnserved, IsWhy, OpensNot, ProjectNot, TellsFault, with_seed};
 ghost use Rattle.lk_serve.specs.Runs.{IsAskedOnce, next_moment};
 ghost use Rattle.lk_serve.specs.declared.opening.Why.{Why};
 
-use crate::keeping::empty_kept;
 use crate::replies::{Reply, fault_found};
-use lk_edition::{Edition, Office, Unopened, openings_begin_a_history};
+use lk_edition::{Office, Unopened, openings_begin_a_history};
 use lk_include::ProjectFault;
 use lk_io::{Clock, Files};
 use lk_ledger::Keeper;
@@ -58,10 +56,10 @@ impl From<NoMemory> for Why {
     }
 }
 
-/// The edition that a project opened with, and the moment at which it did.
+/// The server that a project opened with, and the moment at which it did.
 #[derive(Drop)]
-pub struct Opened {
-    pub edition: Edition,
+pub struct Opened<K> {
+    pub office: Office<K>,
     pub now: i64,
 }
 
@@ -78,88 +76,29 @@ struct Opening {
     seeds: Vec<(u32, Bytes)>,
 }
 
-/// The edition that a folder's project opens over an empty store for queries, or why it opens none: the first fault of the
-/// project, a data file that is too big (P1), the first data file that does not read (L3, L5, L4), tables over a limit (L6), or a
-/// build that is too large (G2). The clock is asked once, before the tables are read, and not at all where the project's files
-/// open nothing. (lookd)
-#[tactic(auto, using(crate::proofs::MomentLaws::next_is, crate::proofs::MomentLaws::unopened_next, crate::proofs::OpenedLaws::line_opens))]
-pub fn open_edition<F: Files, C: Clock>(
-    alloc: Global,
-    files: &mut F,
-    clock: &mut C,
-) -> Result<Opened, Why>
-    ensures opened { IfSome (F.told files.old) (λ told. IfOk result (λ opened.
-        IsOpened told IsEmpty opened.now (Ok opened.edition))) }
-    ensures unopened { IfSome (F.told files.old) (λ told. IfErr result
-        (IsWhy (λ reply. IsOpenedNext told IsEmpty (next_moment (C.moments clock.old)) (Err reply)))) }
-    ensures faulty { IfErr result IsFaulty }
-    ensures stands { IfOk result (λ opened. Stands opened.edition []) }
-    ensures number { IfOk result (λ opened. opened.edition.state.number ≡ 0) }
-    ensures years { IfOk result (λ opened. IsMomentInYears opened.now) }
-    ensures next { IfOk result (λ opened. IfSome (next_moment (C.moments clock.old)) (λ told. opened.now ≡ told)) }
-    ensures once { IsAskedOnce (C.moments clock.old) (C.moments clock.new) }
-    ensures later { F.faults files.old ≤ F.faults files.new }
-    ensures cause { IfErr result (λ why. why ≡ Why.Files → Rose (F.faults files.old) (F.faults files.new)) }
-    ensures never { IfErr result (λ why. why ≡ Why.Store → ⊥) }
-    ensures same { F.told files.new ≡ F.told files.old }
-{
-    let opening = read_project(alloc, files)?;
-    let now = clock.now();
-    let edition = edition_over(alloc, opening, now)?;
-    Ok(Opened { edition, now })
-}
-
-fn edition_over(alloc: Global, opening: Opening, now: i64) -> Result<Edition, Why>
-    requires model { IsResolved opening.loaded.model }
-    requires years { IsMomentInYears now }
-    requires seeds { AreSeeds opening.loaded.model.schema.tables opening.seeds.items }
-    ensures opened { IfOk result (λ edition. IsOpening opening.loaded.model opening.loaded.users IsEmpty
-        opening.seeds.items now (Ok edition)) }
-    ensures unopened { IfErr result (IsWhy (λ reply. (fault : OpenFault) × Opens (open_line fault) reply
-        × IsOpening opening.loaded.model opening.loaded.users IsEmpty opening.seeds.items now (Err fault))) }
-    ensures faulty { IfErr result IsFaulty }
-    ensures stands { IfOk result (λ edition. Stands edition []) }
-    ensures number { IfOk result (λ edition. edition.state.number ≡ 0) }
-    ensures store { IfErr result (λ why. why ≡ Why.Store → ⊥) }
-    ensures files { IfErr result (λ why. why ≡ Why.Files → ⊥) }
-{
-    openings_begin_a_history();
-    let Opening { loaded, seeds } = opening;
-    let Loaded { model, users } = loaded;
-    match Edition::open(
-        alloc,
-        model,
-        users,
-        empty_kept(alloc),
-        seeds.as_slice(),
-        now,
-    ) {
-        Ok(edition) => Ok(edition),
-        Err(fault) => Err(why_not(alloc, fault)),
-    }
-}
-
 /// The server that a folder's project opens over a store, or why it does not: the first fault of the project, a data file that is
 /// too big (P1), the first kept batch that does not read (O1), the first data file that does not read (L3, L5, L4), tables over a
 /// limit (L6), or a build that is too large (G2). The clock is asked once, before the store is read, and not at all where the
 /// project's files open nothing. It changes neither the files nor what the store holds. (lookd)
-#[tactic(auto, using(crate::proofs::MomentLaws::next_is, crate::proofs::MomentLaws::opened_next, crate::proofs::MomentLaws::unopened_next, crate::proofs::OpenedLaws::line_opens))]
+#[tactic(auto, using(crate::proofs::MomentLaws::next_is, crate::proofs::MomentLaws::unopened_next, crate::proofs::OpenedLaws::line_opens))]
 pub fn open_office<F: Files, K: Keeper, C: Clock>(
     alloc: Global,
     files: &mut F,
     keeper: K,
     clock: &mut C,
-) -> Result<Office<K>, Unserved<K>>
-    ensures opened { IfSome (F.told files.old) (λ told. IfOk result (λ office.
-        IsOpenedNext told (Begins (K.held keeper) (K.handed keeper)) (next_moment (C.moments clock.old)) (Ok (standing_in office)))) }
+) -> Result<Opened<K>, Unserved<K>>
+    ensures opened { IfSome (F.told files.old) (λ told. IfOk result (λ opened.
+        IsOpened told (Begins (K.held keeper) (K.handed keeper)) opened.now (Ok (standing_in opened.office)))) }
+    ensures next { IfOk result (λ opened. IfSome (next_moment (C.moments clock.old)) (λ told. opened.now ≡ told)) }
+    ensures years { IfOk result (λ opened. IsMomentInYears opened.now) }
     ensures unopened { IfSome (F.told files.old) (λ told. IfErr result (λ unserved.
         IsWhy (λ reply. IsOpenedNext told (Begins (K.held keeper) (K.handed keeper)) (next_moment (C.moments clock.old)) (Err reply)) unserved.why)) }
     ensures project { IfSome (F.told files.old) (λ told. IfErr result (λ unserved. unserved.why ≡ Why.Store → HasProject told)) }
     ensures faulty { IfErr result (λ unserved. IsFaulty unserved.why) }
-    ensures stands { IfOk result (λ office. Stands (standing_in office) []) }
-    ensures kept_ok { IfOk result (λ office. K.held (keeper_in office) ≡ K.held keeper) }
+    ensures stands { IfOk result (λ opened. Stands (standing_in opened.office) []) }
+    ensures kept_ok { IfOk result (λ opened. K.held (keeper_in opened.office) ≡ K.held keeper) }
     ensures kept_err { IfErr result (λ unserved. K.held unserved.keeper ≡ K.held keeper) }
-    ensures cause_ok { IfOk result (λ office. K.faults keeper ≤ K.faults (keeper_in office)) }
+    ensures cause_ok { IfOk result (λ opened. K.faults keeper ≤ K.faults (keeper_in opened.office)) }
     ensures cause_err { IfErr result (λ unserved. HasWhyCause (K.faults keeper) (K.faults unserved.keeper)
         (F.faults files.old) (F.faults files.new) unserved.why) }
     ensures asked { OnOk result (C.moments clock.new ≡ option_map later (C.moments clock.old)) }
@@ -169,8 +108,8 @@ pub fn open_office<F: Files, K: Keeper, C: Clock>(
 {
     match read_project(alloc, files) {
         Ok(opening) => {
-            let moment = clock.now();
-            open_over(alloc, opening, keeper, moment)
+            let now = clock.now();
+            open_over(alloc, opening, keeper, now)
         }
         Err(why) => Err(Unserved { why, keeper }),
     }
@@ -181,19 +120,20 @@ fn open_over<K: Keeper>(
     opening: Opening,
     keeper: K,
     now: i64,
-) -> Result<Office<K>, Unserved<K>>
+) -> Result<Opened<K>, Unserved<K>>
     requires model { IsResolved opening.loaded.model }
     requires years { IsMomentInYears now }
     requires seeds { AreSeeds opening.loaded.model.schema.tables opening.seeds.items }
-    ensures opened { IfOk result (λ office. IsOpening opening.loaded.model opening.loaded.users (Begins (K.held keeper) (K.handed keeper)) opening.seeds.items now
-        (Ok (standing_in office))) }
+    ensures opened { IfOk result (λ opened. IsOpening opening.loaded.model opening.loaded.users (Begins (K.held keeper) (K.handed keeper))
+        opening.seeds.items opened.now (Ok (standing_in opened.office))) }
+    ensures moment { IfOk result (λ opened. opened.now ≡ now) }
     ensures unopened { IfErr result (λ unserved. IsWhy (λ reply. (fault : OpenFault) × Opens (open_line fault) reply
         × IsOpening opening.loaded.model opening.loaded.users (Begins (K.held keeper) (K.handed keeper)) opening.seeds.items now (Err fault)) unserved.why) }
     ensures faulty { IfErr result (λ unserved. IsFaulty unserved.why) }
-    ensures stands { IfOk result (λ office. Stands (standing_in office) []) }
-    ensures kept_ok { IfOk result (λ office. K.held (keeper_in office) ≡ K.held keeper) }
+    ensures stands { IfOk result (λ opened. Stands (standing_in opened.office) []) }
+    ensures kept_ok { IfOk result (λ opened. K.held (keeper_in opened.office) ≡ K.held keeper) }
     ensures kept_err { IfErr result (λ unserved. K.held unserved.keeper ≡ K.held keeper) }
-    ensures cause_ok { IfOk result (λ office. K.faults keeper ≤ K.faults (keeper_in office)) }
+    ensures cause_ok { IfOk result (λ opened. K.faults keeper ≤ K.faults (keeper_in opened.office)) }
     ensures later { IfErr result (λ unserved. K.faults keeper ≤ K.faults unserved.keeper) }
     ensures cause { IfErr result (λ unserved. unserved.why ≡ Why.Store → Rose (K.faults keeper) (K.faults unserved.keeper)) }
     ensures never { IfErr result (λ unserved. unserved.why ≡ Why.Files → ⊥) }
@@ -202,7 +142,7 @@ fn open_over<K: Keeper>(
     let Opening { loaded, seeds } = opening;
     let Loaded { model, users } = loaded;
     match Office::open(alloc, model, users, keeper, seeds.as_slice(), now) {
-        Ok(office) => Ok(office),
+        Ok(office) => Ok(Opened { office, now }),
         Err(Unopened { fault, keeper }) => Err(Unserved {
             why: why_not(alloc, fault),
             keeper,

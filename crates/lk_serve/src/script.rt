@@ -13,7 +13,7 @@ ghost use Rattle.lk_serve.specs.Tellings.{IsTelling};
 ghost use Rattle.lk_serve.specs.declared.opening.Why.{Why};
 
 use crate::console::Console;
-use crate::opening::{Unserved, Why, open_office};
+use crate::opening::{Opened, Unserved, Why, open_office};
 use crate::serve::write;
 use lk_edition::Office;
 use lk_io::{Clock, Files, Sink, Source};
@@ -138,7 +138,7 @@ pub(crate) fn script<F: Files, K: Keeper, I: Source, O: Sink, C: Clock>(
     ensures same { F.told files.new ≡ F.told files.old }
 {
     match open_office(alloc, files, keeper, clock) {
-        Ok(office) => serve(alloc, office, input, out, clock),
+        Ok(Opened { office, now: _ }) => serve(alloc, office, input, out, clock),
         Err(Unserved { why, keeper }) => Ran {
             status: tell(why, out),
             keeper,

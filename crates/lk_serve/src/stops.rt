@@ -8,6 +8,8 @@ use lk_val::NoMemory;
 pub enum Stop {
     /// The input's count of faults rose.
     Input,
+    /// The store's count of faults rose at the opening.
+    Store,
     /// The files' count of faults rose.
     Files,
     /// An allocation was refused.
@@ -21,6 +23,7 @@ impl Stop {
     {
         match self {
             Stop::Input => 3,
+            Stop::Store => 5,
             Stop::Memory => 6,
             Stop::Files => 7,
         }

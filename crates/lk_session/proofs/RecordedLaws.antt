@@ -1,6 +1,7 @@
 -- A session by what the edition has is one of the edition's history.
 use Rattle.std.proofs.Common.{◌≡◌, ◌∙◌, ◌+◌, ◌++◌, ◌==◌, ℕ, ℤ, Bool, true, false, List, [], ◌∷◌, length, refl, sym, ap, subst, arith, inl, inr, Option, Some, None}
 use Rattle.std.specs.Prelude.{◌⊎◌, IfSome, Ok, Err, Result, if◌then◌else◌, nat_eq}
+use Rattle.lk_val.specs.Years.{IsMomentInYears}
 use Rattle.lk_types.specs.declared.answer.Reply.{Reply}
 use Rattle.lk_semantics.proofs.JoinLaws.{numbers_equal}
 use Rattle.lk_ask.specs.declared.fault.AskFault.{AskFault}
@@ -48,7 +49,7 @@ next_stands e past e' stands =
 module _ (loads : (e : Standing) (past : List State) (call : LoadCall) (p : Planned) → Stands e past → load_planned e call ≡ Ok (New p) → Stands p.standing (e.state ∷ past))
     (checks : (e : Standing) (past : List State) (user : List ℕ) (now : ℤ) (p : Planned) → Stands e past → check_planned e user now ≡ Ok (new_check p) → Stands p.standing (e.state ∷ past))
     (answers : (e : Standing) (past : List State) (user explore body : List ℕ) (now : ℤ) (csv : Bool) (r : Result Reply AskFault)
-    → Stands e past → IsAnswered e user explore body now csv r → IsReplied e past user explore body now csv r) where
+    → Stands e past → IsMomentInYears now → IsAnswered e user explore body now csv r → IsReplied e past user explore body now csv r) where
   -- ---- an item
 
   committed_stands : (e : Standing) (past : List State) (p : Planned) (reply : Reply) (e' : Standing) (store store' : Store) → Stands e past → Stands p.standing (e.state ∷ past)
@@ -78,12 +79,12 @@ module _ (loads : (e : Standing) (past : List State) (call : LoadCall) (p : Plan
   target_stands e past now request target.Check reply e' store store' stands did =
       check_stands e past request.user now (check_planned e request.user now) reply e' store store' stands refl did
 
-  target_told : (e : Standing) (past : List State) (now : ℤ) (request : Request) (t : Target) (reply : Reply) (e' : Standing) (store store' : Store) → Stands e past
+  target_told : (e : Standing) (past : List State) (now : ℤ) (request : Request) (t : Target) (reply : Reply) (e' : Standing) (store store' : Store) → Stands e past → IsMomentInYears now
       → TargetDoes by_edition e now request t reply e' store store' → TargetDoes (by_history past) e now request t reply e' store store'
-  target_told e past now request (target.Query explore) reply e' store store' stands did =
-      (record { told = did.0.told; is = answers e past request.user explore request.body now false did.0.told stands did.0.is; tells = did.0.tells }, did.1)
-  target_told e past now request (target.Load table replace id) reply e' store store' stands did = did
-  target_told e past now request target.Check reply e' store store' stands did = did
+  target_told e past now request (target.Query explore) reply e' store store' stands years did =
+      (record { told = did.0.told; is = answers e past request.user explore request.body now false did.0.told stands years did.0.is; tells = did.0.tells }, did.1)
+  target_told e past now request (target.Load table replace id) reply e' store store' stands years did = did
+  target_told e past now request target.Check reply e' store store' stands years did = did
 
   item_stands : (s : Server) (past : List State) (item : Item) (reply : Reply) (s' : Server) → Stands s.standing past → does s item reply s'
       → StandsAfter s.standing past s'.standing
@@ -101,7 +102,7 @@ module _ (loads : (e : Standing) (past : List State) (call : LoadCall) (p : Plan
     years = did.years;
     first = did.first;
     moments = did.moments;
-    serves = target_told s.standing past did.now request request.target reply s'.standing s.store s'.store stands did.serves;
+    serves = target_told s.standing past did.now request request.target reply s'.standing s.store s'.store stands did.years did.serves;
   })
   item_told s past (Ok (Req request)) reply s' stands (inr forgotten) = inr forgotten
   item_told s past (Err fault) reply s' stands did = did

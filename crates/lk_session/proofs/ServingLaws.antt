@@ -36,9 +36,9 @@ use Rattle.lk_edition.specs.declared.plan.CheckPlan.{CheckPlan}
 use Rattle.lk_edition.specs.declared.plan.CheckPlan.TheVariants.{New as new_check, Nothing}
 use Rattle.lk_edition.specs.declared.plan.LoadPlan.{LoadPlan}
 use Rattle.lk_edition.specs.declared.plan.LoadPlan.TheVariants.{Kept as kept_plan, New}
-use Rattle.lk_answer.specs.Answers.{answered, named, told_at}
-use Rattle.lk_answer.specs.Replies.{replied, tables_at}
-use Rattle.lk_answer.specs.Routes.{routed, tables_from}
+use Rattle.lk_answer.specs.Answers.{answered, named, told_where}
+use Rattle.lk_answer.specs.Replies.{replied, tables_at, told_of}
+use Rattle.lk_answer.specs.Routes.{routed}
 use Rattle.lk_http.specs.Replies.{is_status}
 use Rattle.lk_http.specs.declared.request.Request.{Request}
 use Rattle.lk_http.specs.declared.request.Target.{Target}
@@ -92,13 +92,13 @@ named_plain m csv number (Ok told) reply is =
 answered_plain : (e : Standing) (now : ℤ) (bound : Result Bound QueryFault) (reply : Reply) → Ok reply ≡ answered e now false bound → IsPlain reply.status
 answered_plain e now (Err fault) reply is = absurd (cc is)
 answered_plain e now (Ok b) reply is =
-    named_plain e.model false (routed e b).number (told_at e.model now (tables_from e (routed e b).from) b) reply is
+    named_plain e.model false (routed e b).number (told_where e now b (routed e b).from) reply is
 
 replied_plain : (e : Standing) (past : List State) (now : ℤ) (bound : Result Bound QueryFault) (reply : Reply) → Ok reply ≡ replied e past now false bound
     → IsPlain reply.status
 replied_plain e past now (Err fault) reply is = absurd (cc is)
 replied_plain e past now (Ok b) reply is =
-    named_plain e.model false (routed e b).number (told_at e.model now (tables_at (states_of e past) (routed e b).number) b) reply is
+    named_plain e.model false (routed e b).number (told_of e.model now (tables_at (states_of e past) (routed e b).number) b (routed e b).from) reply is
 
 -- what is told by it has a plain status
 abbrev pub IsPlainTelling : Telling → Type 0
