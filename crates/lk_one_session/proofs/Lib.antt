@@ -1,0 +1,3 @@
+pub mod NextItems
+pub mod Replies
+pub mod Turns
