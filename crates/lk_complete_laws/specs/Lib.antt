@@ -1,0 +1,3 @@
+pub mod Holding
+pub mod Readings
+pub mod Bodies

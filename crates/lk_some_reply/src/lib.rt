@@ -1,0 +1,6 @@
+//! Laws: what a project's parameters say is something.
+#![tactic(auto)]
+
+mod laws;
+
+pub use laws::parameters_say_something;
