@@ -19,76 +19,32 @@ rustc -O -o "$work/plain" "$top/bench/builds_plain.rs" 2>/dev/null || exit 1
 exec python3 - "$top" "$program" "$orders" "$work" <<'P'
 import os
 import pathlib
-import re
-import resource
 import subprocess
 import sys
-import time
 
 top, program, orders, work = sys.argv[1], sys.argv[2], int(sys.argv[3]), pathlib.Path(sys.argv[4])
+sys.path.insert(0, f"{top}/bench")
+import shop  # noqa: E402
+from shop import BY_DAY, BY_PRICE, post  # noqa: E402
+
 ROUNDS = 5
-SHOP = pathlib.Path(top, "examples/shop")
-MODEL = (SHOP / "shop.model.lkml").read_text()
-BY_DAY = MODEL[MODEL.index("  aggregate_table: by_day"):MODEL.index("  aggregate_table: by_price")]
-BY_PRICE = MODEL[MODEL.index("  aggregate_table: by_price"):MODEL.rindex("}")]
 
 
 def project(name, count, tables="", more=""):
-    """A shop of so many orders, with these aggregate tables, and more LookML behind its model."""
-    folder = work / name
-    (folder / "data").mkdir(parents=True)
-    (folder / "views").mkdir()
-    for file in ("schema.csv", "users.csv", "views/shop.view.lkml"):
-        (folder / file).write_text((SHOP / file).read_text())
-    bare = MODEL.replace(BY_DAY, "").replace(BY_PRICE, "")
-    (folder / "shop.model.lkml").write_text(bare[:bare.rindex("}")] + tables + "}\n" + more)
-    users = 1 + count // 10
-    with open(folder / "data/users.csv", "w") as out:
-        out.write("id,region\n" + "".join(f"{u},{('US', 'EU', 'APAC')[u % 3]}\n" for u in range(1, users + 1)))
-    with open(folder / "data/orders.csv", "w") as out:
-        out.write("id,user_id,status,created_at,total\n")
-        for i in range(1, count + 1):
-            moment = time.strftime("%Y-%m-%d %H:%M:%S", time.gmtime(1704067200 + 18000 * i % 31622400))
-            out.write(f"{i},{1 + 17 * i % users},{'complete' if i % 4 else 'open'},{moment},{i % 100}.5\n")
-    with open(folder / "data/items.csv", "w") as out:
-        out.write("id,order_id,price\n")
-        item = 0
-        for i in range(1, count + 1):
-            for k in range(1, i % 4 + 1):
-                item += 1
-                out.write(f"{item},{i},{k + i % 50}.25\n")
-    return folder
+    return shop.project(work, name, count, tables, more)
 
 
-def post(target, user, body):
-    return f"POST {target} HTTP/1.1\r\nX-User: {user}\r\nContent-Length: {len(body)}\r\n\r\n{body}"
+def each(folder, requests, others, count):
+    return shop.each(program, folder, requests, others, count)
 
 
 def load(number):
     return post(f"/load/orders/append/{number}", "etl", f"id\n{10_000_000 + number}\n")
 
 
-def seconds(folder, requests):
-    """The least time of three sessions of these requests, and the replies of the last."""
-    best = None
-    for _ in range(3):
-        begun = time.monotonic()
-        ran = subprocess.run([program, "script", folder], input="".join(requests).encode(), stdout=subprocess.PIPE, check=True)
-        taken = time.monotonic() - begun
-        best = taken if best is None else min(best, taken)
-    return best, ran.stdout.decode()
-
-
-def each(folder, requests, others, count):
-    """What each of so many requests takes that one session has and the other lacks, in milliseconds."""
-    with_them, replies = seconds(folder, requests)
-    without, _ = seconds(folder, others)
-    return 1000 * (with_them - without) / count, replies
-
-
 def opening(folder):
     """The time of a session without requests, and the most memory of its process, in kB."""
-    taken, _ = seconds(folder, [])
+    taken, _ = shop.seconds(program, folder, [])
     ran = subprocess.run(["/usr/bin/time", "-f", "%M", program, "script", folder], input=b"", capture_output=True, check=True)
     return 1000 * taken, int(ran.stderr.split()[-1])
 
