@@ -1,0 +1,4 @@
+pub mod TurnLaws
+pub mod LedgerLaws
+pub mod OpeningLaws
+pub mod ServedLaws
