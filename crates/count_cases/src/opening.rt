@@ -13,6 +13,7 @@ use lk_ledger::Kept;
 use lk_loaded_laws::read_models_are_resolved;
 use lk_resolve::{Loaded, load};
 use lk_seed::read_seeds;
+use lk_types::Schema;
 use lk_val::{Bytes, Items, NoMemory, Text};
 use std::alloc::Global;
 
@@ -22,7 +23,8 @@ pub fn open_folder(rt: &HostRuntime, folder: &str) -> Result<Edition, CaseFault>
     let system: HostRuntime = rt.clone()?;
     let mut files = FolderFiles::at(system, Text::from_str(alloc, folder)?);
     let loaded = load_project(alloc, &mut files)?;
-    open_project(alloc, loaded, &mut files)
+    let seeds = read_batches(alloc, &mut files, &loaded.model.schema);
+    open_over(alloc, loaded, seeds)
 }
 
 fn load_project<F: Files>(alloc: Global, files: &mut F) -> Result<Loaded, CaseFault>
@@ -32,29 +34,36 @@ fn load_project<F: Files>(alloc: Global, files: &mut F) -> Result<Loaded, CaseFa
     load(alloc, files).ok().ok_or(CaseFault::NoProject)
 }
 
-fn open_project<F: Files>(
+fn read_batches<F: Files>(
     alloc: Global,
-    loaded: Loaded,
     files: &mut F,
-) -> Result<Edition, CaseFault>
-    requires { IsResolved loaded.model }
+    schema: &Schema,
+) -> Result<Vec<(u32, Bytes)>, CaseFault>
+    ensures { IfOk result (λ seeds. AreSeeds schema.now.tables seeds.items) }
 {
-    match read_seeds(alloc, files, &loaded.model.schema) {
-        Ok(seeds) => open_over(alloc, loaded, numbered(alloc, seeds)?.as_slice()),
+    match read_seeds(alloc, files, schema) {
+        Ok(seeds) => Ok(numbered(alloc, seeds)?),
         Err(_) => Err(CaseFault::NoProject),
     }
 }
 
-fn open_over(alloc: Global, loaded: Loaded, seeds: &[(u32, Bytes)]) -> Result<Edition, CaseFault>
+// It takes the batches as they were read, so that the project is let go of at one place.
+fn open_over(
+    alloc: Global,
+    loaded: Loaded,
+    seeds: Result<Vec<(u32, Bytes)>, CaseFault>,
+) -> Result<Edition, CaseFault>
     requires model { IsResolved loaded.model }
-    requires seeds { AreSeeds loaded.model.schema.tables seeds.now }
+    requires seeds { IfOk seeds (λ seeds. AreSeeds loaded.model.schema.tables seeds.items) }
 {
+    let seeds = seeds?;
     let kept = Kept {
         number: 0,
         chunks: Items::new(alloc),
         ids: Items::new(alloc),
     };
-    let opened = Edition::open(alloc, loaded.model, loaded.users, kept, seeds, NOW);
+    let Loaded { model, users } = loaded;
+    let opened = Edition::open(alloc, model, users, kept, seeds.as_slice(), NOW);
     opened.ok().ok_or(CaseFault::NoProject)
 }
 
