@@ -6,3 +6,11 @@ pub mod Failing
 pub mod Lines
 pub mod Loads
 pub mod Items
+pub mod Batches
+pub mod States
+pub mod Openings
+pub mod Refusals
+pub mod Moments
+pub mod Replies
+pub mod Requests
+pub mod Sessions

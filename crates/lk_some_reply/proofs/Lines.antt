@@ -102,7 +102,7 @@ trees_lines schema table (Err why) h = h
 trees_lines schema table (Ok trees) h = tt
 
 module _ (files : List File) where
-  table_lines : (path : List ℕ) → FailsBy IsFileLine (table_at files path)
+  pub table_lines : (path : List ℕ) → FailsBy IsFileLine (table_at files path)
   table_lines path = sized_lines path (body_of path files)
 
   root_lines : (roots : List (List ℕ)) → FailsBy IsFileLine (trees_from files roots)

@@ -1,8 +1,9 @@
 -- What files are loaded as, where neither memory is wanting nor a call of the files fails.
-use Rattle.std.specs.Prelude.{List, Result, Ok, Err}
+use Rattle.std.specs.Prelude.{◌≡◌, List, Result, Ok, Err}
 use Rattle.lk_io.specs.declared.files.File.{File}
 use Rattle.lk_include.specs.declared.project.ProjectFault.{ProjectFault}
 use Rattle.lk_include.specs.declared.project.ProjectFault.TheVariants.{Model, Failed, NoMemory}
+use Rattle.lk_ledger.specs.declared.kept.Kept.{Kept}
 use Rattle.lk_resolve.specs.Loading.{IsLoadOf}
 use Rattle.lk_resolve.specs.declared.loading.Loaded.{Loaded}
 
@@ -17,3 +18,7 @@ IsTold (Err NoMemory) = ⊥
 pub record IsLoadTold (files : List File) (result : Result Loaded ProjectFault) : Type 0 where
   pub is_load : IsLoadOf files result
   pub told : IsTold result
+
+-- a store hands over what it keeps
+abbrev pub IsHanded : Kept → Kept → Type 0
+IsHanded kept handed = handed ≡ kept
