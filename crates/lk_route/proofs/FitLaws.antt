@@ -2,6 +2,7 @@
 use Rattle.std.proofs.Common.{◌≡◌, ℕ, Bool, true, false, ◌&&◌, ◌||◌, List, [], ◌∷◌, ◌++◌, map, length, refl, sym, ap, ◌∙◌}
 use Rattle.std.specs.Prelude.{filter, flat_map, if◌then◌else◌, nat_eq, nat_lt, not}
 use Rattle.std.specs.List.{list_all}
+use Rattle.std.specs.Option.{is_some}
 use Rattle.std.proofs.lemmas.Bool.{eqb-true}
 use Rattle.std.proofs.lemmas.List.Folds.{list_all-append}
 use Rattle.lk_types.specs.Expressions.{has_number}
@@ -20,6 +21,7 @@ use Rattle.lk_semantics.specs.Rollups.{filters_fit, fits, has_field, is_same_set
 use Rattle.lk_semantics.proofs.EveryLaws.{first, second}
 use Rattle.lk_route.specs.Fits.{are_dims, are_had, do_regroup, does_regroup, fields_fit, fits_by, groups_fit, has_join, is_asked_or_keeps, is_had, is_picked, joins_fit, passes_dim, passes_filtered, passes_measure}
 use Rattle.lk_route.specs.Ready.{has_component, ready_join, ready_measure, ready_rollup, regroups_component}
+use Rattle.lk_route.specs.Unmet.{first_of, first_unmet}
 use Rattle.lk_route.specs.declared.ready.ReadyMeasure.{ReadyMeasure}
 use Rattle.lk_route.specs.declared.ready.ReadyRollup.{ReadyRollup}
 use Rattle.lk_route.proofs.NumberLaws.{at_below}
@@ -191,6 +193,32 @@ module _ (x : Explore) (r : Rollup) where
       once true true same regrouped = refl
       once true false same regrouped = refl
 
+  -- whether the groups fit plays a part only where all measures are had
+  pub unmet_are : (b : Bound) → list_all (is_pick x) b.picks ≡ true → are_measures x (filtered b.having) ≡ true
+      → first_of (joins_fit (ready_rollup x r).joins b.joins) (fields_fit x r b) (filters_fit r b) (are_had ready b) (groups_fit r (ready_rollup x r) b)
+      ≡ first_unmet x r b
+  unmet_are b picks having =
+      (λ i. first_of (joins_are x r b i) (fields_are x r b i) (filters_fit r b) (had_are b picks having i) (groups_are b picks having i))
+      ∙ once (rollups.joins_fit x r b) (rollups.fields_fit x r b) (filters_fit r b) (rollups.measures_fit x r b) (is_same_set (dims_of b.picks) r.dims)
+      (list_all (λ m. regroups x r (measure_at x m)) (query_components x b))
+    where
+      once : (joins fields filters had same regrouped : Bool)
+          → first_of joins fields filters had (same || (had && regrouped)) ≡ first_of joins fields filters had (same || regrouped)
+      once joins fields filters true same regrouped = refl
+      once false fields filters false same regrouped = refl
+      once true false filters false same regrouped = refl
+      once true true false false same regrouped = refl
+      once true true true false same regrouped = refl
+
+-- a point that does not hold is there just where not all hold
+pub some_unmet : (joins fields filters measures groups : Bool) → is_some (first_of joins fields filters measures groups) ≡ not (joins && fields && filters && measures && groups)
+some_unmet false fields filters measures groups = refl
+some_unmet true false filters measures groups = refl
+some_unmet true true false measures groups = refl
+some_unmet true true true false groups = refl
+some_unmet true true true true false = refl
+some_unmet true true true true true = refl
+
 -- of a query and an aggregate table of a model, by what was made ready of the model
 pub fits_at : (m : Model) (b : Bound) (n : ℕ) (x : Explore) (r : Rollup) (known : ReadyRollup) → IsInModel m b → x ≡ explore_at m b.explore → r ≡ rollup_at x n
     → known ≡ ready_rollup (explore_at m b.explore) (rollup_at (explore_at m b.explore) n)
@@ -198,3 +226,12 @@ pub fits_at : (m : Model) (b : Bound) (n : ℕ) (x : Explore) (r : Rollup) (know
 fits_at m b n x r known query explore rollup own =
     (λ i. fits_by (explore i) ((rollup ∙ ap (λ y. rollup_at y n) explore) i) (own i) b)
     ∙ fits_are (explore_at m b.explore) (rollup_at (explore_at m b.explore) n) b query.picks query.measures
+
+pub unmet_at : (m : Model) (b : Bound) (n : ℕ) (x : Explore) (r : Rollup) (known : ReadyRollup) → IsInModel m b → x ≡ explore_at m b.explore → r ≡ rollup_at x n
+    → known ≡ ready_rollup (explore_at m b.explore) (rollup_at (explore_at m b.explore) n)
+    → first_of (joins_fit known.joins b.joins) (fields_fit x r b) (filters_fit r b) (are_had known.measures b) (groups_fit r known b)
+    ≡ first_unmet (explore_at m b.explore) (rollup_at (explore_at m b.explore) n) b
+unmet_at m b n x r known query explore rollup own =
+    (λ i. let y = (rollup ∙ ap (λ z. rollup_at z n) explore) i in
+    first_of (joins_fit (own i).joins b.joins) (fields_fit (explore i) y b) (filters_fit y b) (are_had (own i).measures b) (groups_fit y (own i) b))
+    ∙ unmet_are (explore_at m b.explore) (rollup_at (explore_at m b.explore) n) b query.picks query.measures

@@ -45,7 +45,7 @@ fn fits_by(x: &Explore, r: &Rollup, ready: &ReadyRollup, b: &Bound) -> bool
 
 // Whether the query's joins are among the aggregate table's, and each further one leaves the rows before it as they were.
 #[tactic(auto, unfolding(crate::specs::Fits::joins_fit))]
-fn joins_fit(known: &[ReadyJoin], joins: &[u32]) -> bool
+pub(crate) fn joins_fit(known: &[ReadyJoin], joins: &[u32]) -> bool
     ensures { result ≡ joins_fit known.now joins.now }
 {
     has_joins(known, joins) && are_asked_or_keep(joins, known)
@@ -77,7 +77,7 @@ fn is_asked_or_keeps(joins: &[u32], known: ReadyJoin) -> bool
 
 // Whether the aggregate table has each field that the query groups or filters by.
 #[tactic(auto, unfolding(crate::specs::Fits::fields_fit))]
-fn fields_fit(x: &Explore, r: &Rollup, b: &Bound) -> bool
+pub(crate) fn fields_fit(x: &Explore, r: &Rollup, b: &Bound) -> bool
     ensures { result ≡ fields_fit x.now r.now b.now }
 {
     has_dims(x, r, b.picks.as_slice())
@@ -140,7 +140,7 @@ fn is_coarser(coarse: &Shape, fine: &Shape) -> bool
 }
 
 // Whether the query has each of an aggregate table's filters: on the same field, with the same tests.
-fn filters_fit(r: &Rollup, b: &Bound) -> bool
+pub(crate) fn filters_fit(r: &Rollup, b: &Bound) -> bool
     ensures { result ≡ rollups.filters_fit r.now b.now }
 {
     let asked = b.rows.as_slice();
@@ -160,7 +160,7 @@ fn is_filter_among(filter: &(u32, Filter), asked: &[(u32, Filter)]) -> bool
 
 // Whether the aggregate table has all that the query's measures are put together from.
 #[tactic(auto, unfolding(crate::specs::Fits::are_had))]
-fn are_had(ready: &[ReadyMeasure], b: &Bound) -> bool
+pub(crate) fn are_had(ready: &[ReadyMeasure], b: &Bound) -> bool
     ensures { result ≡ are_had ready.now b.now }
 {
     are_picks_had(ready, b.picks.as_slice()) && are_filtered_had(ready, b.having.as_slice())
@@ -192,7 +192,7 @@ fn is_had(ready: &[ReadyMeasure], measure: u32) -> bool
 
 // Whether the query's groups are the aggregate table's own, or all of its measures may be put together from them.
 #[tactic(auto, unfolding(crate::specs::Fits::groups_fit))]
-fn groups_fit(r: &Rollup, ready: &ReadyRollup, b: &Bound) -> bool
+pub(crate) fn groups_fit(r: &Rollup, ready: &ReadyRollup, b: &Bound) -> bool
     ensures { result ≡ groups_fit r.now ready.now b.now }
 {
     are_dims(b.picks.as_slice(), r.dims.as_slice()) || do_regroup(ready.measures.as_slice(), b)

@@ -8,5 +8,7 @@ mod regrouping;
 mod role;
 mod routing;
 mod timeframe;
+mod unmet;
 
 pub use ready::Ready;
+pub use unmet::Point;
