@@ -1,4 +1,5 @@
-//! A caller's query on an edition: its answer over the tables that it is routed to, or its first refusal.
+//! A caller's query on an edition: its answer, over the tables or from the aggregate table that it is routed to, or its first
+//! refusal.
 #![tactic(auto)]
 
 mod answering;

@@ -1,6 +1,6 @@
 ghost use Rattle.std.specs.Prelude.{◌≡◌};
 
-/// What the last query went over: joined rows of the tables, of those that its caller may see, and rows of aggregate tables.
+/// What the last query went over: the joined rows of tables that its caller may see, or the rows of an aggregate table.
 #[derive(Clone, Copy, PartialEq, Eq)]
 pub struct Scratch {
     pub joined_rows: u64,

@@ -3,3 +3,4 @@ pub mod OfficeLaws
 pub mod OpeningLaws
 pub mod PlanLaws
 pub mod StandingLaws
+pub mod VersionLaws

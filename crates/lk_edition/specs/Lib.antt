@@ -6,3 +6,4 @@ pub mod Openings
 pub mod Offices
 pub mod Editions
 pub mod Checks
+pub mod Versions

@@ -2,6 +2,7 @@ ghost use Rattle.std.specs.Prelude.{◌≡◌, ◌∷◌, [], ℕ, ℤ, List, Ok
 ghost use Rattle.lk_types.specs.declared.model.Model.{Model};
 ghost use Rattle.lk_semantics.specs.Resolved.{IsResolved};
 ghost use Rattle.lk_schema.specs.declared.users.Users.{Users};
+ghost use Rattle.lk_front.specs.Chains.{EndsIn, IsChain};
 ghost use Rattle.lk_ledger.specs.declared.kept.Kept.{Kept};
 ghost use Rattle.lk_state.specs.Openings.{AreSeeds, Seed};
 ghost use Rattle.lk_state.specs.States.{State};
@@ -11,6 +12,7 @@ ghost use Rattle.lk_edition.specs.Loads.{load_planned};
 ghost use Rattle.lk_edition.specs.Openings.{standing_opened};
 ghost use Rattle.lk_edition.specs.Plans.{Planned};
 ghost use Rattle.lk_edition.specs.Standings.{Standing};
+ghost use Rattle.lk_edition.specs.Versions.{Follows, Opens, past_of};
 ghost use Rattle.lk_edition.specs.declared.call.LoadCall.{LoadCall};
 ghost use Rattle.lk_edition.specs.declared.plan.CheckPlan.TheVariants as check_plan;
 ghost use Rattle.lk_edition.specs.declared.plan.LoadPlan.TheVariants as load_plan;
@@ -43,4 +45,13 @@ pub fn checks_keep_the_history()
         → Stands e past → check_planned e user now ≡ Ok (check_plan.New p) → Stands p.standing (e.state ∷ past) }
 {
     what_is_built_anew_is_kept();
+}
+
+/// In a list of editions of which the first opened a server and each other one is the one before it once more, or that of a load or
+/// a check on it, the last is that of the history in the list. A law: it computes nothing.
+pub fn editions_in_a_list_stand()
+    ensures { (list : List Standing) (e : Standing) → IsChain Opens Follows list → EndsIn list e → Stands e (past_of list) }
+{
+    loads_keep_the_history();
+    checks_keep_the_history();
 }

@@ -11,9 +11,13 @@ mod loading;
 mod office;
 mod opening;
 mod plan;
+mod version;
 
 pub use call::LoadCall;
 pub use edition::{Edition, editions_are_shared};
-pub use laws::{checks_keep_the_history, loads_keep_the_history, openings_begin_a_history};
+pub use laws::{
+    checks_keep_the_history, editions_in_a_list_stand, loads_keep_the_history,
+    openings_begin_a_history,
+};
 pub use office::{Office, Unopened};
 pub use plan::{CheckPlan, LoadPlan, Pending};

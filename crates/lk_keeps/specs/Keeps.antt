@@ -37,7 +37,7 @@ abbrev pub persisted_rows : Model → (ℕ → List Rows) → ℕ → Option ℕ
 persisted_rows m built d None = []
 persisted_rows m built d (Some g) = slice_index_or (sources_over m (built g)).derived d []
 
--- what is kept where each datagroup was built over these stored tables; of stored tables only those that a persisted derived table's queries need
+-- what is kept where each datagroup was built over these stored tables: these themselves, where the datagroup persists a derived table, and the rows that they give
 abbrev pub keeps_of : Model → (ℕ → List Rows) → Keeps
 keeps_of m built = record {
   tables = map (λ g. if persists m g then built g else []) (numbers_below (length m.datagroups));
