@@ -1,0 +1,5 @@
+pub mod ChainGrowth
+pub mod CountLaws
+pub mod Endings
+pub mod KnowingLaws
+pub mod Offers

@@ -1,0 +1,6 @@
+//! Shelves, desks and notes in one thread, over numbers.
+#![tactic(auto)]
+
+mod numbers;
+#[cfg(test)]
+mod tests;
