@@ -25,10 +25,11 @@ use Rattle.lk_http.specs.declared.request.Request.{Request}
 use Rattle.lk_http.specs.declared.request.Target.{Target}
 use Rattle.lk_http.specs.declared.request.Target.TheVariants as target
 use Rattle.lk_kept.specs.Accepted.{AreAccepted, LeadsTo, Step, by_check, by_load}
+use Rattle.lk_turns.specs.Doings.{Sent}
+use Rattle.lk_turns.specs.Runs.{AreTurns, IsRun}
+use Rattle.lk_turns.specs.declared.ended.Ended.{Ended}
 use Rattle.lk_session.specs.Recorded.{Recorded, RecordedDoes}
-use Rattle.lk_session.specs.Runs.{AreTurns, IsRun}
-use Rattle.lk_session.specs.Servers.{CheckDoes, IsCommitted, ItemDoes, LoadDoes, Sent, Server, Stays, TargetDoes, Telling, by_history, call_of}
-use Rattle.lk_session.specs.declared.ended.Ended.{Ended}
+use Rattle.lk_session.specs.Servers.{CheckDoes, IsCommitted, ItemDoes, LoadDoes, Server, Stays, TargetDoes, Telling, by_history, call_of}
 use Rattle.lk_history.specs.Histories.{HasAccepted}
 
 -- ---- no step, and one
@@ -79,7 +80,7 @@ target_of IsTold s t now request target.Check reply does =
 item_of : (IsTold : Telling) (s : Server) (item : Item) (reply : Reply) (t : Server) → ItemDoes IsTold s item reply t → HasAccepted s t
 item_of IsTold s (Ok End) reply t none = absurd none
 item_of IsTold s (Ok (Req request)) reply t (inl does) = target_of IsTold s t does.now request request.target reply does.serves
-item_of IsTold s (Ok (Req request)) reply t (inr forgotten) = stayed s t forgotten.stays
+item_of IsTold s (Ok (Req request)) reply t (inr forgotten) = stayed s t forgotten.1.stays
 item_of IsTold s (Err fault) reply t does = unmoved s t does.1
 
 -- ---- one behind the other

@@ -3,10 +3,10 @@ ghost use Rattle.std.specs.List.{All};
 ghost use Rattle.lk_table.specs.BatchTexts.{HasNamedColumns};
 ghost use Rattle.lk_ledger.specs.declared.kept.Kept.{Kept};
 ghost use Rattle.lk_state.specs.Openings.{opened};
+ghost use Rattle.lk_turns.specs.Doings.{Sent};
+ghost use Rattle.lk_turns.specs.Runs.{IsRun};
+ghost use Rattle.lk_turns.specs.declared.ended.Ended.{Ended};
 ghost use Rattle.lk_session.specs.Recorded.{Recorded, RecordedDoes};
-ghost use Rattle.lk_session.specs.Runs.{IsRun};
-ghost use Rattle.lk_session.specs.Servers.{Sent};
-ghost use Rattle.lk_session.specs.declared.ended.Ended.{Ended};
 ghost use Rattle.lk_history.specs.Histories.{HasAccepted};
 
 use lk_kept::stores_hold_the_last_state;

@@ -8,7 +8,7 @@ use crate::kept::Kept;
 use std::alloc::Global;
 
 /// A store of loads, each saved before any reader sees it. An object may tell what it holds.
-pub trait Keeper: Send {
+pub trait Keeper {
     ghost use Rattle.lk_ledger.specs.declared.kept.Kept.{Kept};
 
     /// What the store holds, where the object tells.

@@ -28,9 +28,10 @@ use Rattle.lk_http.specs.declared.request.Got.TheVariants.{End, Req}
 use Rattle.lk_http.specs.declared.request.Request.{Request}
 use Rattle.lk_http.specs.declared.request.Target.{Target}
 use Rattle.lk_http.specs.declared.request.Target.TheVariants as target
+use Rattle.lk_turns.specs.Doings.{IsRefusal, Sent, http_reply}
+use Rattle.lk_turns.specs.Runs.{IsTurn}
 use Rattle.lk_session.specs.Recorded.{Recorded, RecordedDoes, past_after, recorded}
-use Rattle.lk_session.specs.Runs.{IsTurn}
-use Rattle.lk_session.specs.Servers.{CheckDoes, IsCommitted, IsQueried, IsRefusal, LoadDoes, RequestDoes, Saves, Sent, Server, Stays, Store, TargetDoes, Telling, Tells, by_history, call_of, http_reply, server, store_of}
+use Rattle.lk_session.specs.Servers.{CheckDoes, IsCommitted, IsQueried, LoadDoes, RequestDoes, Saves, Server, Stays, Store, TargetDoes, Telling, Tells, by_history, call_of, server, store_of}
 use Rattle.lk_session.proofs.ServingLaws.{IsPlain, IsUnsaved, target_plain}
 use Rattle.lk_one_session.specs.Outcomes.{is_forgotten, is_unsaved, may_differ, uncounted}
 
@@ -235,8 +236,8 @@ module _ (one_replied : OneReplied) where
       item_alike : (item : Item) → RecordedDoes h item a h' → RecordedDoes k item b k' → (a ≡ b) × AreAlike h' k'
       item_alike (Ok End) d e = absurd d.0
       item_alike (Ok (Req request)) (inl d, is) (inl e, so) = request_alike request d e is so
-      item_alike (Ok (Req request)) (inl d, is) (inr e, so) = absurd (not_forgotten b e.is fair.other_kept)
-      item_alike (Ok (Req request)) (inr d, is) e = absurd (not_forgotten a d.is fair.kept)
+      item_alike (Ok (Req request)) (inl d, is) (inr e, so) = absurd (not_forgotten b e.0 fair.other_kept)
+      item_alike (Ok (Req request)) (inr d, is) e = absurd (not_forgotten a d.0 fair.kept)
       item_alike (Err fault) d e = (one_refusal (http_reply fault) a b fair d.0.0 e.0.0, still_alike d.0.1 e.0.1 d.1 e.1)
 
   -- ---- a turn

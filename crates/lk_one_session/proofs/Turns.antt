@@ -8,11 +8,12 @@ use Rattle.lk_http.specs.declared.faults.HttpFault.TheVariants as http
 use Rattle.lk_http.specs.declared.request.Got.TheVariants.{End}
 use Rattle.lk_types.specs.declared.answer.Reply.{Reply}
 use Rattle.lk_state.specs.States.{State}
+use Rattle.lk_turns.specs.Doings.{Sent}
+use Rattle.lk_turns.specs.Runs.{AreTurns, Closes, EndsAt, GoesOut, IsOver, IsRun, IsTurn, IsUnread, ended_by, is_last, printed}
+use Rattle.lk_turns.specs.declared.ended.Ended.{Ended}
+use Rattle.lk_turns.specs.declared.ended.Ended.TheVariants as ended
 use Rattle.lk_session.specs.Recorded.{IsRecorded, Recorded, RecordedDoes, recorded}
-use Rattle.lk_session.specs.Runs.{AreTurns, Closes, EndsAt, GoesOut, IsOver, IsRun, IsTurn, IsUnread, ended_by, is_last, printed}
-use Rattle.lk_session.specs.Servers.{Sent, Server}
-use Rattle.lk_session.specs.declared.ended.Ended.{Ended}
-use Rattle.lk_session.specs.declared.ended.Ended.TheVariants as ended
+use Rattle.lk_session.specs.Servers.{Server}
 use Rattle.lk_one_session.specs.Outcomes.{AreUndisturbed, BeginWith, HaveSameReplies, IsFront, has_failure, is_broken_off, is_forgotten, is_unsaved, may_differ, some_may_differ, uncounted}
 use Rattle.lk_one_session.proofs.NextItems.{one_next}
 use Rattle.lk_one_session.proofs.Replies.{AreAlike, OneReplied, alike, turn_alike, uncounted_alike}

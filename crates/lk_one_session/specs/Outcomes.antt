@@ -4,10 +4,11 @@ use Rattle.std.specs.Bool.{beq}
 use Rattle.std.specs.List.{list_any}
 use Rattle.lk_types.specs.declared.answer.Reply.{Reply}
 use Rattle.lk_http.specs.Items.{IsNext, Item}
+use Rattle.lk_turns.specs.Doings.{Sent}
+use Rattle.lk_turns.specs.declared.ended.Ended.{Ended}
+use Rattle.lk_turns.specs.declared.ended.Ended.TheVariants as ended
 use Rattle.lk_session.specs.Recorded.{Recorded, recorded}
-use Rattle.lk_session.specs.Servers.{Sent, server}
-use Rattle.lk_session.specs.declared.ended.Ended.{Ended}
-use Rattle.lk_session.specs.declared.ended.Ended.TheVariants as ended
+use Rattle.lk_session.specs.Servers.{server}
 
 -- all of a server and its history but how many calls of its store have failed
 abbrev pub uncounted : Recorded → Recorded

@@ -3,10 +3,11 @@ ghost use Rattle.lk_state.specs.States.{State};
 ghost use Rattle.lk_http.specs.Items.{IsNext, Item, Step};
 ghost use Rattle.lk_http.specs.declared.faults.HttpFault.TheVariants.{Truncated};
 ghost use Rattle.lk_http.specs.declared.request.Got.TheVariants.{End};
+ghost use Rattle.lk_turns.specs.Doings.{Sent};
+ghost use Rattle.lk_turns.specs.Runs.{IsRun};
+ghost use Rattle.lk_turns.specs.declared.ended.Ended.{Ended};
 ghost use Rattle.lk_session.specs.Recorded.{IsRecorded, Recorded, RecordedDoes, recorded};
-ghost use Rattle.lk_session.specs.Runs.{IsRun};
-ghost use Rattle.lk_session.specs.Servers.{Sent, Server};
-ghost use Rattle.lk_session.specs.declared.ended.Ended.{Ended};
+ghost use Rattle.lk_session.specs.Servers.{Server};
 ghost use Rattle.lk_one_session.specs.Outcomes.{AreUndisturbed, BeginWith, HaveSameReplies, IsFront, has_failure, is_broken_off, some_may_differ, uncounted};
 
 use lk_answer::bodies_are_replied_one_thing;

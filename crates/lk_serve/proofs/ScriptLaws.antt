@@ -8,9 +8,9 @@ use Rattle.lk_io.specs.declared.files.File.{File}
 use Rattle.lk_edition.specs.Histories.{Stands}
 use Rattle.lk_edition.specs.Standings.{Standing}
 use Rattle.lk_ledger.specs.declared.kept.Kept.{Kept}
+use Rattle.lk_turns.specs.declared.ended.Ended.{Ended}
 use Rattle.lk_session.specs.Recorded.{IsRecorded}
 use Rattle.lk_session.specs.Servers.{server}
-use Rattle.lk_session.specs.declared.ended.Ended.{Ended}
 use Rattle.lk_serve.specs.Opened.{IsOpenedNext}
 use Rattle.lk_serve.specs.Openings.{HasProject, IsFaulty, IsWhy}
 use Rattle.lk_serve.specs.Runs.{IsAskedOnce, next_moment}

@@ -7,10 +7,10 @@ use Rattle.lk_io.specs.Streams.{AppendsFront}
 use Rattle.lk_io.specs.declared.files.File.{File}
 use Rattle.lk_ledger.specs.declared.kept.Kept.{Kept}
 use Rattle.lk_edition.specs.Standings.{Standing}
+use Rattle.lk_turns.specs.declared.ended.Ended.{Ended}
+use Rattle.lk_turns.specs.declared.ended.Ended.TheVariants as ended
 use Rattle.lk_session.specs.Recorded.{IsRecorded}
 use Rattle.lk_session.specs.Servers.{server}
-use Rattle.lk_session.specs.declared.ended.Ended.{Ended}
-use Rattle.lk_session.specs.declared.ended.Ended.TheVariants as ended
 use Rattle.lk_serve.specs.Opened.{HasOpened, IsOpenedNext, TellsLine}
 use Rattle.lk_serve.specs.Openings.{HasProject}
 use Rattle.lk_serve.specs.Runs.{IsAskedOnce, next_moment}

@@ -13,7 +13,7 @@ ghost use Rattle.lk_state.specs.Openings.{AreSeeds};
 ghost use Rattle.lk_state.specs.declared.fault.OpenFault.{OpenFault};
 ghost use Rattle.lk_edition.specs.Histories.{Stands};
 ghost use Rattle.lk_edition.specs.Offices.{Begins, IsOpening, standing_in};
-ghost use Rattle.lk_session.specs.Steps.{keeper_in};
+ghost use Rattle.lk_session.specs.Servers.{keeper_in};
 ghost use Rattle.lk_serve.specs.Opened.{IsOpened, IsOpenedNext, Opens, numbered, open_fault, open_line, unread_fault, unread_line};
 ghost use Rattle.lk_serve.specs.Openings.{HasProject, HasWhyCause, IsFaulty, IsLine, IsProject, IsUnserved, IsWhy, OpensNot, ProjectNot, TellsFault, with_seed};
 ghost use Rattle.lk_serve.specs.Runs.{IsAskedOnce, next_moment};

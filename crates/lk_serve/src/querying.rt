@@ -5,7 +5,7 @@ ghost use Rattle.lk_val.specs.Years.{IsMomentInYears};
 ghost use Rattle.lk_ask.specs.Asks.{is_no_memory};
 ghost use Rattle.lk_edition.specs.Histories.{Stands};
 ghost use Rattle.lk_edition.specs.Offices.{Begins, standing_in};
-ghost use Rattle.lk_session.specs.Steps.{keeper_in};
+ghost use Rattle.lk_session.specs.Servers.{keeper_in};
 ghost use Rattle.lk_answer.specs.Replies.{IsReplied};
 ghost use Rattle.lk_serve.specs.Opened.{HasOpened};
 ghost use Rattle.lk_serve.specs.Openings.{HasProject};

@@ -121,7 +121,7 @@ target_grows IsTold s t now request target.Check reply is does =
 item_grows : (IsTold : Telling) (s : Server) (item : Item) (reply : Reply) (t : Server) → ItemDoes IsTold s item reply t → Grows s item reply t
 item_grows IsTold s (Ok End) reply t none = absurd none
 item_grows IsTold s (Ok (Req request)) reply t (inl does) = target_grows IsTold s t does.now request request.target reply refl does.serves
-item_grows IsTold s (Ok (Req request)) reply t (inr forgotten) = inl (same_ledger s t forgotten.stays)
+item_grows IsTold s (Ok (Req request)) reply t (inr forgotten) = inl (same_ledger s t forgotten.1.stays)
 item_grows IsTold s (Err why) reply t does = inl (ap ledger_of does.1)
 
 -- what the ledger has stays in it
@@ -156,7 +156,7 @@ module _ (planned : KeptPlanned) where
   item_repeats IsTold s (Ok End) reply t id load found none = absurd none
   item_repeats IsTold s (Ok (Req request)) reply t id load found (inl does) =
       request_repeats IsTold s t does.now request id load reply found does.serves
-  item_repeats IsTold s (Ok (Req request)) reply t id load found (inr forgotten) = λ _. (inr forgotten.is, unmoved s t forgotten.stays)
+  item_repeats IsTold s (Ok (Req request)) reply t id load found (inr forgotten) = λ _. (inr forgotten.0, unmoved s t forgotten.1.stays)
   item_repeats IsTold s (Err why) reply t id load found does = λ asks. absurd asks
 
   -- ---- an item of a history

@@ -20,10 +20,11 @@ use Rattle.lk_edition.specs.declared.call.LoadCall.{LoadCall}
 use Rattle.lk_edition.proofs.PlanLaws.{IsBuilt, IsNew, is_built, is_new}
 use Rattle.lk_kept.specs.Accepted.{AreAccepted, LeadsTo, Step, by_check, by_load}
 use Rattle.lk_history.specs.Histories.{HasAccepted}
+use Rattle.lk_turns.specs.Doings.{Sent}
+use Rattle.lk_turns.specs.Runs.{GoesOut, IsRun}
+use Rattle.lk_turns.specs.declared.ended.Ended.{Ended}
 use Rattle.lk_session.specs.Recorded.{IsRecorded, Recorded, RecordedDoes, recorded}
-use Rattle.lk_session.specs.Runs.{GoesOut, IsRun}
-use Rattle.lk_session.specs.Servers.{Sent, server}
-use Rattle.lk_session.specs.declared.ended.Ended.{Ended}
+use Rattle.lk_session.specs.Servers.{server}
 use Rattle.lk_serve.specs.Opened.{IsOpenedNext, numbered}
 use Rattle.lk_serve.specs.Runs.{next_moment}
 use Rattle.lk_serve.specs.Scripts.{HasServed, Outside, Served, ended_code}

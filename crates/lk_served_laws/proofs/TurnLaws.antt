@@ -2,9 +2,9 @@
 use Rattle.std.proofs.Common.{◌+◌, ℕ, Bool, List, [], ◌∷◌, inl, inr, subst, sym}
 use Rattle.lk_types.specs.declared.answer.Reply.{Reply}
 use Rattle.lk_http.specs.Items.{Item}
-use Rattle.lk_session.specs.Runs.{AreTurns, Doing, IsRun, IsTurn, is_last}
-use Rattle.lk_session.specs.Servers.{Sent}
-use Rattle.lk_session.specs.declared.ended.Ended.{Ended}
+use Rattle.lk_turns.specs.Doings.{Doing, Sent}
+use Rattle.lk_turns.specs.Runs.{AreTurns, IsRun, IsTurn, is_last}
+use Rattle.lk_turns.specs.declared.ended.Ended.{Ended}
 
 module _ {S : Type 0} (Does Other : Doing S) (Known : S → Type 0)
     (step : (s : S) (item : Item) (reply : Reply) (t : S) → Known s → Does s item reply t → Other s item reply t × Known t) where

@@ -11,8 +11,8 @@ use Rattle.lk_http.specs.Replies.{memory_reply}
 use Rattle.lk_http.specs.declared.request.Got.TheVariants.{End, Req}
 use Rattle.lk_http.specs.declared.request.Request.{Request}
 use Rattle.lk_http.specs.declared.request.Target.TheVariants as target
+use Rattle.lk_turns.specs.Doings.{Doing}
 use Rattle.lk_session.specs.Recorded.{Recorded, RecordedDoes}
-use Rattle.lk_session.specs.Runs.{Doing}
 use Rattle.lk_session.specs.Servers.{Server}
 
 -- each accepted load, with what its reply says

@@ -8,10 +8,10 @@ use Rattle.lk_ledger.specs.declared.kept.Kept.{Kept}
 use Rattle.lk_seed.specs.Seeds.{seeds_of}
 use Rattle.lk_edition.specs.Standings.{Standing}
 use Rattle.lk_kept.specs.Accepted.{AreAccepted, Step}
+use Rattle.lk_turns.specs.Doings.{Sent}
+use Rattle.lk_turns.specs.Runs.{GoesOut, IsRun}
+use Rattle.lk_turns.specs.declared.ended.Ended.{Ended}
 use Rattle.lk_session.specs.Recorded.{Recorded}
-use Rattle.lk_session.specs.Runs.{GoesOut, IsRun}
-use Rattle.lk_session.specs.Servers.{Sent}
-use Rattle.lk_session.specs.declared.ended.Ended.{Ended}
 use Rattle.lk_serve.specs.Opened.{IsOpened, IsOpenedNext, numbered}
 use Rattle.lk_serve.specs.Replies.{fault_reply}
 use Rattle.lk_serve.specs.Runs.{next_moment}

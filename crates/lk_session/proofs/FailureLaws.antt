@@ -1,6 +1,6 @@
 -- A request is answered with 503 only where a call of the store failed.
-use Rattle.std.proofs.Common.{◌≡◌, ◌∙◌, ◌++◌, ◌+◌, ◌≤◌, ◌==◌, ◌^◌, ◌-◌, min, ℕ, Bool, true, false, List, [], ◌∷◌, refl, sym, ap, subst, arith, inl, inr}
-use Rattle.std.specs.Prelude.{ℤ, ◌⊎◌, if◌then◌else◌, Ok, Err, Result}
+use Rattle.std.proofs.Common.{◌≡◌, ◌≤◌, ◌==◌, ℕ, false, List, inl, inr}
+use Rattle.std.specs.Prelude.{ℤ, ◌⊎◌, Ok, Err, Result}
 use Rattle.lk_io.specs.Causes.{Rose}
 use Rattle.lk_types.specs.declared.answer.Reply.{Reply}
 use Rattle.lk_command_reply.specs.declared.fault.CheckFault.{CheckFault}
@@ -14,16 +14,15 @@ use Rattle.lk_edition.specs.declared.plan.CheckPlan.TheVariants.{New as new_chec
 use Rattle.lk_edition.specs.declared.plan.LoadPlan.{LoadPlan}
 use Rattle.lk_edition.specs.declared.plan.LoadPlan.TheVariants.{Kept as kept_plan, New}
 use Rattle.lk_http.specs.Items.{Item}
-use Rattle.lk_http.specs.declared.faults.HttpFault.{HttpFault}
-use Rattle.lk_http.specs.declared.faults.HttpFault.TheVariants as http
-use Rattle.lk_http.specs.declared.request.Got.TheVariants.{End, Req}
 use Rattle.lk_http.specs.declared.request.Request.{Request}
 use Rattle.lk_http.specs.declared.request.Target.{Target}
 use Rattle.lk_http.specs.declared.request.Target.TheVariants as target
+use Rattle.lk_turns.specs.Doings.{Sent}
+use Rattle.lk_turns.specs.Runs.{IsRun, failures}
+use Rattle.lk_turns.specs.declared.ended.Ended.{Ended}
+use Rattle.lk_turns.proofs.FailureLaws.{Counts, failed, item_counts, run_counts}
 use Rattle.lk_session.specs.Recorded.{Recorded, RecordedDoes}
-use Rattle.lk_session.specs.Runs.{AreTurns, IsRun, failures}
-use Rattle.lk_session.specs.Servers.{CheckDoes, IsCommitted, IsRefusal, ItemDoes, LoadDoes, Sent, Server, Store, TargetDoes, Telling, by_history, call_of, http_reply}
-use Rattle.lk_session.specs.declared.ended.Ended.{Ended}
+use Rattle.lk_session.specs.Servers.{CheckDoes, IsCommitted, IsForgotten, ItemDoes, LoadDoes, RequestDoes, Server, Store, TargetDoes, Telling, by_history, call_of}
 use Rattle.lk_session.proofs.ServingLaws.{IsPlain, IsPlainTelling, IsUnsaved, history_plain, target_plain}
 
 -- ---- counts never fall
@@ -54,84 +53,31 @@ target_later IsTold e now request target.Check reply e' store store' does = chec
 
 -- ---- a turn
 
-abbrev failed : Reply → ℕ
-failed reply = if reply.status == 503 then 1 else 0
+-- a reply is plain, or the store's count rose
+plain_or_rose : (reply : Reply) (store store' : Store) → IsPlain reply.status ⊎ IsUnsaved reply store store' → ((reply.status == 503) ≡ false) ⊎ Rose store.faults store'.faults
+plain_or_rose reply store store' (inl plain) = inl plain.1
+plain_or_rose reply store store' (inr unsaved) = inr unsaved.1
 
--- the store's count has risen by as many as failed
-abbrev Counts : ℕ → ℕ → ℕ → Type 0
-Counts before many now = min (before + many) (2 ^ 64 - 1) ≤ now
+module _ (IsTold : Telling) (plain : IsPlainTelling IsTold) where
+  request_later : (s : Server) (request : Request) (reply : Reply) (s' : Server) → RequestDoes IsTold s request reply s' → s.store.faults ≤ s'.store.faults
+  request_later s request reply s' does = target_later IsTold s.standing does.now request request.target reply s'.standing s.store s'.store does.serves
 
-plain_counts : (before now : ℕ) (reply : Reply) → (reply.status == 503) ≡ false → before ≤ now → Counts before (failed reply) now
-plain_counts before now reply plain later = subst (λ b. Counts before (if b then 1 else 0) now) (sym plain) (omega (arith, later))
+  request_rose : (s : Server) (request : Request) (reply : Reply) (s' : Server) → RequestDoes IsTold s request reply s'
+      → ((reply.status == 503) ≡ false) ⊎ Rose s.store.faults s'.store.faults
+  request_rose s request reply s' does = plain_or_rose reply s.store s'.store
+      (target_plain IsTold plain s.standing does.now request request.target reply s'.standing s.store s'.store does.serves)
 
-risen_counts : (before now : ℕ) (b : Bool) → Rose before now → Counts before (if b then 1 else 0) now
-risen_counts before now true rose = rose
-risen_counts before now false rose = omega (arith, rose)
-
-request_counts : (before now : ℕ) (reply : Reply) (store store' : Store) → store.faults ≡ before → store'.faults ≡ now → before ≤ now
-    → IsPlain reply.status ⊎ IsUnsaved reply store store' → Counts before (failed reply) now
-request_counts before now reply store store' is is' later (inl plain) = plain_counts before now reply plain.1 later
-request_counts before now reply store store' is is' later (inr saved) =
-    risen_counts before now (reply.status == 503) (subst (λ n. Rose n now) is (subst (λ n. Rose store.faults n) is' saved.1))
-
-plain_refusal : (fault : HttpFault) (reply : Reply) → IsRefusal (http_reply fault) reply → (reply.status == 503) ≡ false
-plain_refusal http.H1 reply (inl is) = ap (λ (r : Reply). r.status == 503) is
-plain_refusal http.H1 reply (inr is) = ap (λ (r : Reply). r.status == 503) is
-plain_refusal http.H2 reply (inl is) = ap (λ (r : Reply). r.status == 503) is
-plain_refusal http.H2 reply (inr is) = ap (λ (r : Reply). r.status == 503) is
-plain_refusal (http.H3 count) reply (inl is) = ap (λ (r : Reply). r.status == 503) is
-plain_refusal (http.H3 count) reply (inr is) = ap (λ (r : Reply). r.status == 503) is
-plain_refusal (http.H4 close) reply (inl is) = ap (λ (r : Reply). r.status == 503) is
-plain_refusal (http.H4 close) reply (inr is) = ap (λ (r : Reply). r.status == 503) is
-plain_refusal (http.H5 close) reply (inl is) = ap (λ (r : Reply). r.status == 503) is
-plain_refusal (http.H5 close) reply (inr is) = ap (λ (r : Reply). r.status == 503) is
-plain_refusal http.H6 reply (inl is) = ap (λ (r : Reply). r.status == 503) is
-plain_refusal http.H6 reply (inr is) = ap (λ (r : Reply). r.status == 503) is
-plain_refusal http.Truncated reply none = absurd none
-plain_refusal http.ReadFault reply none = absurd none
-plain_refusal http.NoMemory reply none = absurd none
-
-item_counts : (IsTold : Telling) → IsPlainTelling IsTold → (s : Server) (item : Item) (reply : Reply) (s' : Server) → ItemDoes IsTold s item reply s' → Counts s.store.faults (failed reply) s'.store.faults
-item_counts IsTold plain s (Ok End) reply s' none = absurd none
-item_counts IsTold plain s (Ok (Req request)) reply s' (inl does) =
-    request_counts s.store.faults s'.store.faults reply s.store s'.store refl refl
-    (target_later IsTold s.standing does.now request request.target reply s'.standing s.store s'.store does.serves)
-    (target_plain IsTold plain s.standing does.now request request.target reply s'.standing s.store s'.store does.serves)
-item_counts IsTold plain s (Ok (Req request)) reply s' (inr forgotten) =
-    plain_counts s.store.faults s'.store.faults reply (ap (λ (r : Reply). r.status == 503) forgotten.is) forgotten.stays.saves.later
-item_counts IsTold plain s (Err fault) reply s' does =
-    plain_counts s.store.faults s'.store.faults reply (plain_refusal fault reply does.0) (subst (λ (k : Server). s.store.faults ≤ k.store.faults) (sym does.1) (omega arith))
+  -- an item of a server
+  server_counts : (s : Server) (item : Item) (reply : Reply) (s' : Server) → ItemDoes IsTold s item reply s' → Counts s.store.faults (failed reply) s'.store.faults
+  server_counts = item_counts (RequestDoes IsTold) IsForgotten (λ s. s.store.faults) request_later request_rose (λ s request s' forgotten. forgotten.stays.saves.later)
 
 -- ---- a run
 
-both_count : (before m now a b : ℕ) → Counts before a m → Counts m b now → Counts before (a + b) now
-both_count before m now a b p q = omega (arith, p, q)
-
-turn_counts : (h : Recorded) (item : Item) (reply : Reply) (h' : Recorded) → RecordedDoes h item reply h'
+recorded_counts : (h : Recorded) (item : Item) (reply : Reply) (h' : Recorded) → RecordedDoes h item reply h'
     → Counts h.server.store.faults (failed reply) h'.server.store.faults
-turn_counts h item reply h' does = item_counts (by_history h.past) (history_plain h.past) h.server item reply h'.server does.0
-
-turns_count : (before : ℕ) (h : Recorded) (bytes : List ℕ) (sents : List Sent) (h' : Recorded) (rest : List ℕ)
-    → AreTurns RecordedDoes before h bytes sents h' rest → Counts h.server.store.faults (failures sents) h'.server.store.faults
-turns_count before h bytes [] h' rest turns =
-    subst (λ (k : Recorded). min (h.server.store.faults + 0) (2 ^ 64 - 1) ≤ k.server.store.faults) turns.0 (omega arith)
-turns_count before h bytes (sent ∷ more) h' rest (m, left, turn, open_still, turns) =
-    both_count h.server.store.faults m.server.store.faults h'.server.store.faults (failed sent.reply) (failures more)
-    (turn_counts h turn.item sent.reply m turn.does) (turns_count (before + 1) m left more h' rest turns)
-
-failures_behind : (front : List Sent) (sent : Sent) → failures (front ++ sent ∷ []) ≡ failures front + failed sent.reply
-failures_behind [] sent = omega arith
-failures_behind (first ∷ more) sent = ap (λ n. failed first.reply + n) (failures_behind more sent) ∙ omega arith
+recorded_counts h item reply h' does = server_counts (by_history h.past) (history_plain h.past) h.server item reply h'.server does.0
 
 -- as many calls of the store failed as replies say so
-pub run_counts : (h h' : Recorded) (bytes rest : List ℕ) (sents : List Sent) (how : Ended)
+pub saves_count : (h h' : Recorded) (bytes rest : List ℕ) (sents : List Sent) (how : Ended)
     → IsRun RecordedDoes h bytes sents h' rest how → Counts h.server.store.faults (failures sents) h'.server.store.faults
-run_counts h h' bytes rest sents how (inl none) =
-    subst (λ (k : Recorded). Counts h.server.store.faults (failures sents) k.server.store.faults) (sym none.same)
-    (subst (λ l. Counts h.server.store.faults (failures l) h.server.store.faults) (sym none.none) (omega arith))
-run_counts h h' bytes rest sents how (inr (inl stopped)) = turns_count 0 h bytes sents h' stopped.left stopped.turns
-run_counts h h' bytes rest sents how (inr (inr closed)) =
-    subst (λ n. Counts h.server.store.faults n h'.server.store.faults) (sym (ap failures closed.all ∙ failures_behind closed.front closed.sent))
-    (both_count h.server.store.faults closed.m.server.store.faults h'.server.store.faults (failures closed.front) (failed closed.sent.reply)
-    (turns_count 0 h bytes closed.front closed.m closed.left closed.turns)
-    (turn_counts closed.m closed.closes.turn.item closed.sent.reply h' closed.closes.turn.does))
+saves_count = run_counts RecordedDoes (λ h. h.server.store.faults) recorded_counts

@@ -1,6 +1,5 @@
+pub mod AnswerLaws
 pub mod FailureLaws
-pub mod RunLaws
-pub mod ServingLaws
-pub mod StepLaws
-pub mod WayLaws
 pub mod RecordedLaws
+pub mod ServingLaws
+pub mod StayLaws

@@ -25,11 +25,15 @@ use Rattle.lk_http.specs.declared.request.Got.TheVariants.{End, Req}
 use Rattle.lk_http.specs.declared.request.Request.{Request}
 use Rattle.lk_http.specs.declared.request.Target.{Target}
 use Rattle.lk_http.specs.declared.request.Target.TheVariants as target
+use Rattle.lk_turns.specs.Doings.{Doing, Sent}
+use Rattle.lk_turns.specs.Runs.{AreTurns, Closed, Closes, IsRun, IsSession, IsTurn, is_last}
+use Rattle.lk_turns.specs.declared.ended.Ended.{Ended}
 use Rattle.lk_session.specs.Recorded.{IsRecorded, Recorded, RecordedDoes, past_after, recorded}
-use Rattle.lk_session.specs.Runs.{AreTurns, Closed, Closes, IsRun, IsSession, IsTurn, is_last}
-use Rattle.lk_session.specs.Servers.{CheckDoes, IsCommitted, ItemDoes, LoadDoes, Sent, Server, Stays, Store, TargetDoes, by_edition, by_history, call_of}
-use Rattle.lk_session.specs.declared.ended.Ended.{Ended}
-use Rattle.lk_session.proofs.RunLaws.{does}
+use Rattle.lk_session.specs.Servers.{CheckDoes, IsCommitted, ItemDoes, LoadDoes, Server, Stays, Store, TargetDoes, by_edition, by_history, call_of}
+
+-- what an item does, by what the edition has
+abbrev pub does : Doing Server
+does = ItemDoes by_edition
 
 -- the edition of a history, and the one that takes its place, are of histories
 abbrev StandsAfter : Standing → List State → Standing → Type 0
@@ -91,7 +95,7 @@ module _ (loads : (e : Standing) (past : List State) (call : LoadCall) (p : Plan
   item_stands s past (Ok End) reply s' stands none = absurd none
   item_stands s past (Ok (Req request)) reply s' stands (inl did) =
       target_stands s.standing past did.now request request.target reply s'.standing s.store s'.store stands did.serves
-  item_stands s past (Ok (Req request)) reply s' stands (inr forgotten) = same_stands s.standing past s'.standing forgotten.stays.standing stands
+  item_stands s past (Ok (Req request)) reply s' stands (inr forgotten) = same_stands s.standing past s'.standing forgotten.1.stays.standing stands
   item_stands s past (Err fault) reply s' stands did = same_stands s.standing past s'.standing (ap (λ (k : Server). k.standing) did.1) stands
 
   item_told : (s : Server) (past : List State) (item : Item) (reply : Reply) (s' : Server) → Stands s.standing past → does s item reply s'

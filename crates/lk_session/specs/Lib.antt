@@ -1,4 +1,2 @@
 pub mod Servers
-pub mod Runs
-pub mod Steps
 pub mod Recorded

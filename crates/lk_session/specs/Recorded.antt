@@ -5,9 +5,10 @@ use Rattle.lk_state.specs.States.{State}
 use Rattle.lk_edition.specs.Histories.{Stands}
 use Rattle.lk_edition.specs.Standings.{Standing}
 use Rattle.lk_http.specs.Items.{Item}
-use Rattle.lk_session.specs.Runs.{Doing, IsSession}
+use Rattle.lk_turns.specs.Doings.{Doing}
+use Rattle.lk_turns.specs.Runs.{IsSession}
+use Rattle.lk_turns.specs.declared.ended.Ended.{Ended}
 use Rattle.lk_session.specs.Servers.{ItemDoes, Server, by_history}
-use Rattle.lk_session.specs.declared.ended.Ended.{Ended}
 
 -- a server, and the states before its edition's, the newest first
 pub record Recorded : Type 0 where

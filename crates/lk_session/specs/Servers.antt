@@ -1,5 +1,5 @@
 -- A server between two replies of a connection, and what the next item of the connection's bytes comes to. (lookd)
-use Rattle.std.specs.Prelude.{◌≡◌, ◌⊎◌, ◌≤◌, ℕ, ℤ, Bool, false, List, [], ◌∷◌, ◌++◌, codes, Option, Some, None, IfSome, Result, Ok, Err, slice_get}
+use Rattle.std.specs.Prelude.{◌≡◌, ◌⊎◌, ◌≤◌, ℕ, ℤ, Bool, false, List, [], ◌∷◌, Option, Some, IfSome, Result, Ok, Err, slice_get}
 use Rattle.std.specs.Option.{option_map}
 use Rattle.lk_io.specs.Causes.{Rose}
 use Rattle.lk_io.specs.Moments.{later}
@@ -21,20 +21,22 @@ use Rattle.lk_edition.specs.Loads as loads
 use Rattle.lk_edition.specs.Plans.{Planned}
 use Rattle.lk_edition.specs.Standings.{Standing}
 use Rattle.lk_edition.specs.declared.call.LoadCall.{LoadCall}
+use Rattle.lk_edition.specs.declared.office.Office.{Office}
 use Rattle.lk_edition.specs.declared.plan.CheckPlan.{CheckPlan}
 use Rattle.lk_edition.specs.declared.plan.CheckPlan.TheVariants.{New as new_check, Nothing}
 use Rattle.lk_edition.specs.declared.plan.LoadPlan.{LoadPlan}
 use Rattle.lk_edition.specs.declared.plan.LoadPlan.TheVariants.{Kept as kept_plan, New}
 use Rattle.lk_answer.specs.Answers.{IsAnswered}
 use Rattle.lk_answer.specs.Replies.{IsReplied}
-use Rattle.lk_http.specs.Items.{Item}
-use Rattle.lk_http.specs.Replies.{memory_reply}
-use Rattle.lk_http.specs.declared.faults.HttpFault.{HttpFault}
-use Rattle.lk_http.specs.declared.faults.HttpFault.TheVariants as http
-use Rattle.lk_http.specs.declared.request.Got.TheVariants.{End, Req}
 use Rattle.lk_http.specs.declared.request.Request.{Request}
 use Rattle.lk_http.specs.declared.request.Target.{Target}
 use Rattle.lk_http.specs.declared.request.Target.TheVariants as target
+use Rattle.lk_turns.specs.Doings.{Doing}
+use Rattle.lk_turns.specs.Doings as doings
+
+-- the store of an office
+abbrev pub keeper_in : {K : Type 0} → Office K → K
+keeper_in office = office.keeper
 
 -- what the store holds, as far as it tells, and how many of its calls failed
 pub record Store : Type 0 where
@@ -53,11 +55,6 @@ pub record Server : Type 0 where
 abbrev pub server : Standing → Option Kept → ℕ → Option (List ℤ) → Server
 server standing held faults moments =
     record { standing = standing; store = store_of held faults; moments = moments }
-
--- a reply, and whether the connection closes after it
-pub record Sent : Type 0 where
-  pub reply : Reply
-  pub close : Bool
 
 -- ---- what a request does: its reply, the edition after it, and the store
 
@@ -132,22 +129,6 @@ Serves IsTold e now request reply e' store store' = TargetDoes IsTold e now requ
 
 -- ---- what an item comes to
 
--- a refusal that says its code alone
-abbrev pub coded : ℕ → List ℕ → Reply
-coded status code = record { status = status; csv = false; body = codes "{\"error\":\"" ++ (code ++ codes "\"}") }
-
--- the reply to a request that is refused as it is; a cut and a link that fails have none
-abbrev pub http_reply : HttpFault → Option Reply
-http_reply http.H1 = Some (coded 400 (codes "H1"))
-http_reply http.H2 = Some (coded 411 (codes "H2"))
-http_reply (http.H3 count) = Some (coded 413 (codes "H3"))
-http_reply (http.H4 close) = Some (coded 404 (codes "H4"))
-http_reply (http.H5 close) = Some (coded 405 (codes "H5"))
-http_reply http.H6 = Some (coded 431 (codes "H6"))
-http_reply http.Truncated = None
-http_reply http.ReadFault = None
-http_reply http.NoMemory = None
-
 -- a request takes the next moment, and does what its target says
 pub record RequestDoes (IsTold : Telling) (s : Server) (request : Request) (reply : Reply) (s' : Server) : Type 0 where
   pub now : ℤ
@@ -156,18 +137,11 @@ pub record RequestDoes (IsTold : Telling) (s : Server) (request : Request) (repl
   pub moments : s'.moments ≡ option_map later s.moments
   pub serves : Serves IsTold s.standing now request reply s'.standing s.store s'.store
 
--- memory was refused: a request is answered that, and changes nothing but that it may have taken the next moment
-pub record IsForgotten (s : Server) (reply : Reply) (s' : Server) : Type 0 where
-  pub is : reply ≡ memory_reply
+-- memory was refused: nothing is changed but that the next moment may have been taken
+pub record IsForgotten (s : Server) (request : Request) (s' : Server) : Type 0 where
   pub stays : Stays s.standing s'.standing s.store s'.store
   pub moments : (s'.moments ≡ s.moments) ⊎ (s'.moments ≡ option_map later s.moments)
 
--- the reply of a refusal, or that memory was refused
-abbrev pub IsRefusal : Option Reply → Reply → Type 0
-IsRefusal None reply = ⊥
-IsRefusal (Some refusal) reply = (reply ≡ refusal) ⊎ (reply ≡ memory_reply)
-
-abbrev pub ItemDoes : Telling → Server → Item → Reply → Server → Type 0
-ItemDoes IsTold s (Ok End) reply s' = ⊥
-ItemDoes IsTold s (Ok (Req request)) reply s' = RequestDoes IsTold s request reply s' ⊎ IsForgotten s reply s'
-ItemDoes IsTold s (Err fault) reply s' = IsRefusal (http_reply fault) reply × (s' ≡ s)
+-- a request does that, or memory was refused for it; a refusal changes nothing
+abbrev pub ItemDoes : Telling → Doing Server
+ItemDoes IsTold = doings.ItemDoes (RequestDoes IsTold) IsForgotten

@@ -1,30 +1,23 @@
-ghost use Rattle.std.specs.Prelude.{◌≡◌, ◌⊎◌, ◌≤◌, ◌||◌, List, [], if◌then◌else◌, IfOk, IfSome, IsSome, Err, None, Ok, OnErr, OnOk, Some, true};
-ghost use Rattle.std.specs.Io.KnownBytes.{Appends};
-ghost use Rattle.lk_io.specs.Causes.{HasCause, Rose};
-ghost use Rattle.lk_io.specs.Streams.{AppendsFront};
+ghost use Rattle.std.specs.Prelude.{◌≡◌, ◌⊎◌, ◌≤◌, List, IfSome, IsSome, Ok, Some, true};
+ghost use Rattle.lk_io.specs.Causes.{Rose};
 ghost use Rattle.lk_state.specs.States.{State};
 ghost use Rattle.lk_edition.specs.Histories.{Stands};
 ghost use Rattle.lk_edition.specs.Offices.{standing_in};
-ghost use Rattle.lk_http.specs.Items.{ends};
-ghost use Rattle.lk_http.specs.Replies.{is_status, memory_reply, printed_reply};
 ghost use Rattle.lk_http.specs.Ways.{Comes};
 ghost use Rattle.lk_http.specs.declared.request.Got.TheVariants.{Req};
+ghost use Rattle.lk_turns.specs.Runs.{IsSession};
+ghost use Rattle.lk_turns.specs.Steps.{IsDone, IsStep, NeverFall};
+ghost use Rattle.lk_turns.specs.declared.ended.Ended.{Ended};
 ghost use Rattle.lk_session.specs.Recorded.{IsRecorded};
-ghost use Rattle.lk_session.specs.Runs.{IsSession, closed_by, how_ended};
-ghost use Rattle.lk_session.specs.Servers.{ItemDoes, by_edition, http_reply, server};
-ghost use Rattle.lk_session.specs.Steps.{IsDone, IsRefused, IsSent, IsStep, NeverFall, keeper_in, reply_or_memory};
-ghost use Rattle.lk_session.specs.declared.ended.Ended.{Ended};
+ghost use Rattle.lk_session.specs.Servers.{ItemDoes, by_edition, keeper_in, server};
 
-use crate::ended::Ended;
-use crate::refusing::refusal_of;
 use crate::serving::serve;
 use lk_answer::answers_are_of_one_snapshot;
 use lk_edition::{Office, checks_keep_the_history, loads_keep_the_history};
-use lk_http::{Conn, Got, HttpFault, Request, read_request, write_memory, write_reply};
-use lk_io::{Clock, Failed, Link};
+use lk_http::{Conn, Got, HttpFault, Request, read_request};
+use lk_io::{Clock, Link};
 use lk_ledger::Keeper;
-use lk_types::Reply;
-use lk_val::{Bytes, NoMemory};
+use lk_turns::{Ended, forget, refuse, send};
 use std::alloc::Global;
 
 // The most replies of a session.
@@ -102,7 +95,7 @@ fn answer_next<K: Keeper, L: Link, C: Clock>(
     conn: &mut Conn,
     last: bool,
 ) -> Option<Ended>
-    ensures step { IfSome (L.left link.old) (λ bytes. IsStep
+    ensures step { IfSome (L.left link.old) (λ bytes. IsStep (ItemDoes by_edition)
         (server (standing_in office.old) (K.held (keeper_in office.old)) (K.faults (keeper_in office.old)) (C.moments clock.old)) bytes last
         (L.held link.old) (L.held link.new)
         (server (standing_in office.new) (K.held (keeper_in office.new)) (K.faults (keeper_in office.new)) (C.moments clock.new)) (L.left link.new) result) }
@@ -133,7 +126,7 @@ fn answer_request<K: Keeper, L: Link, C: Clock>(
     request: Request,
     last: bool,
 ) -> Option<Ended>
-    ensures done { IsDone
+    ensures done { IsDone (ItemDoes by_edition)
         (server (standing_in office.old) (K.held (keeper_in office.old)) (K.faults (keeper_in office.old)) (C.moments clock.old)) (Ok (Req request)) last
         (L.held link.old) (L.held link.new)
         (server (standing_in office.new) (K.held (keeper_in office.new)) (K.faults (keeper_in office.new)) (C.moments clock.new)) result }
@@ -150,125 +143,4 @@ fn answer_request<K: Keeper, L: Link, C: Clock>(
     let now = clock.now();
     let reply = serve(alloc, office, request, now);
     send(link, reply, close, last, Ended::Clean)
-}
-
-// Answers a request that was read and dropped for want of memory.
-fn forget<L: Link>(link: &mut L, close: bool, last: bool) -> Option<Ended>
-    ensures sent { IsSent (L.held link.old) (L.held link.new) memory_reply (close || last) (how_ended last Ended.Clean) result }
-    ensures left { L.left link.new ≡ L.left link.old }
-    ensures ends { last ≡ true → IsSome result }
-    ensures reads { L.Source.faults link.new ≡ L.Source.faults link.old }
-    ensures write { result ≡ Some Ended.WriteFault → Rose (L.Sink.faults link.old) (L.Sink.faults link.new) }
-    ensures writes { L.Sink.faults link.old ≤ L.Sink.faults link.new }
-    ensures puts { Comes L.Sink.keeps_at_put link.old link.new }
-    ensures never { result ≡ Some Ended.ReadFault → ⊥ }
-{
-    send(link, Err(NoMemory), close, last, Ended::Clean)
-}
-
-// Answers a request that is refused as it is.
-fn refuse<L: Link>(alloc: Global, link: &mut L, fault: HttpFault, last: bool) -> Option<Ended>
-    requires { IsSome (http_reply fault) }
-    ensures sent { IsRefused fault last (L.held link.old) (L.held link.new) result }
-    ensures some { IsSome (http_reply fault) }
-    ensures left { L.left link.new ≡ L.left link.old }
-    ensures ends { last ≡ true → IsSome result }
-    ensures reads { L.Source.faults link.new ≡ L.Source.faults link.old }
-    ensures write { result ≡ Some Ended.WriteFault → Rose (L.Sink.faults link.old) (L.Sink.faults link.new) }
-    ensures writes { L.Sink.faults link.old ≤ L.Sink.faults link.new }
-    ensures puts { Comes L.Sink.keeps_at_put link.old link.new }
-    ensures never { result ≡ Some Ended.ReadFault → ⊥ }
-{
-    let reply = reply_fault(alloc, fault);
-    send(link, reply, closes(fault), last, closed_by(fault))
-}
-
-// The reply to a request that is refused as it is.
-fn reply_fault(alloc: Global, fault: HttpFault) -> Result<Reply, NoMemory>
-    requires { IsSome (http_reply fault) }
-    ensures { IfOk result (λ reply. http_reply fault ≡ Some reply) }
-{
-    let Some((status, body)) = refusal_of(fault) else {
-        unreachable!()
-    };
-    Ok(Reply {
-        status,
-        csv: false,
-        body: Bytes::from_slice(alloc, body)?,
-    })
-}
-
-// Whether the connection closes after the fault.
-fn closes(fault: HttpFault) -> bool
-    ensures { result ≡ ends (Err fault) }
-{
-    match fault {
-        HttpFault::H4(close) | HttpFault::H5(close) => close,
-        _ => true,
-    }
-}
-
-// How a session ends that the fault closes.
-fn closed_by(fault: HttpFault) -> Ended
-    ensures { result ≡ closed_by (Err fault) }
-{
-    match fault {
-        HttpFault::H1 | HttpFault::H2 | HttpFault::H3(_) | HttpFault::H6 => Ended::BadHead,
-        _ => Ended::Clean,
-    }
-}
-
-// Sends a reply, or that memory was refused, and tells how the session ended, if it did.
-fn send<L: Link>(
-    link: &mut L,
-    reply: Result<Reply, NoMemory>,
-    close: bool,
-    last: bool,
-    ended: Ended,
-) -> Option<Ended>
-    requires status { IfOk reply (λ reply. is_status reply.status ≡ true) }
-    requires never { ended ≡ Ended.ReadFault → ⊥ }
-    requires unwritten { ended ≡ Ended.WriteFault → ⊥ }
-    ensures sent { IsSent (L.held link.old) (L.held link.new) (reply_or_memory reply) (close || last) (how_ended last ended) result }
-    ensures left { L.left link.new ≡ L.left link.old }
-    ensures ends { last ≡ true → IsSome result }
-    ensures reads { L.Source.faults link.new ≡ L.Source.faults link.old }
-    ensures write { result ≡ Some Ended.WriteFault → Rose (L.Sink.faults link.old) (L.Sink.faults link.new) }
-    ensures writes { L.Sink.faults link.old ≤ L.Sink.faults link.new }
-    ensures puts { Comes L.Sink.keeps_at_put link.old link.new }
-    ensures never { result ≡ Some Ended.ReadFault → ⊥ }
-{
-    match write(link, &reply, close || last) {
-        Ok(()) => ended_after(close, last, ended),
-        Err(_) => Some(Ended::WriteFault),
-    }
-}
-
-// Writes a reply, or that memory was refused.
-fn write<L: Link>(link: &mut L, reply: &Result<Reply, NoMemory>, close: bool) -> Result<(), Failed>
-    requires status { IfOk reply.now (λ reply. is_status reply.status ≡ true) }
-    ensures ok { OnOk result (Appends (L.held link.old) (L.held link.new) (printed_reply (reply_or_memory reply.now) close)) }
-    ensures err { OnErr result (AppendsFront (L.held link.old) (L.held link.new) (printed_reply (reply_or_memory reply.now) close)) }
-    ensures cause { HasCause (L.Sink.faults link.old) (L.Sink.faults link.new) result }
-    ensures left { L.left link.new ≡ L.left link.old }
-    ensures reads { L.Source.faults link.new ≡ L.Source.faults link.old }
-    ensures puts { Comes L.Sink.keeps_at_put link.old link.new }
-{
-    match reply {
-        Ok(reply) => write_reply(link, reply, close),
-        Err(NoMemory) => write_memory(link, close),
-    }
-}
-
-// How a session ended whose reply went out, if it did.
-fn ended_after(close: bool, last: bool, ended: Ended) -> Option<Ended>
-    ensures { result ≡ (if close || last then Some (how_ended last ended) else None) }
-{
-    if last {
-        Some(Ended::Spent)
-    } else if close {
-        Some(ended)
-    } else {
-        None
-    }
 }

@@ -1,8 +1,8 @@
 ghost use Rattle.std.specs.Prelude.{◌≤◌, ◌+◌, ◌-◌, ◌^◌, min, ℕ, List};
+ghost use Rattle.lk_turns.specs.Doings.{Sent};
+ghost use Rattle.lk_turns.specs.Runs.{IsRun, failures};
+ghost use Rattle.lk_turns.specs.declared.ended.Ended.{Ended};
 ghost use Rattle.lk_session.specs.Recorded.{Recorded, RecordedDoes};
-ghost use Rattle.lk_session.specs.Runs.{IsRun, failures};
-ghost use Rattle.lk_session.specs.Servers.{Sent};
-ghost use Rattle.lk_session.specs.declared.ended.Ended.{Ended};
 
 /// At most as many replies of a session say that the store failed (503) as calls of the store failed during it, where the store
 /// can count them. A law: it computes nothing.

@@ -1,12 +1,10 @@
-//! A session: the requests of a connection answered in order, on one thread.
+//! A session: the requests of a connection answered in order by an office, on one thread.
 #![tactic(auto)]
 
 mod answering;
-mod ended;
 mod laws;
-mod refusing;
 mod serving;
 
 pub use answering::session;
-pub use ended::Ended;
 pub use laws::failed_saves_are_counted;
+pub use lk_turns::Ended;

@@ -3,8 +3,7 @@ ghost use Rattle.lk_val.specs.Years.{IsMomentInYears};
 ghost use Rattle.lk_edition.specs.Checks.{check_planned};
 ghost use Rattle.lk_edition.specs.Loads.{load_planned};
 ghost use Rattle.lk_edition.specs.Offices.{IsPlanned, standing_in};
-ghost use Rattle.lk_session.specs.Servers.{CheckDoes, IsCommitted, IsQueried, LoadDoes, Serves, Stays, by_edition, store_of};
-ghost use Rattle.lk_session.specs.Steps.{keeper_in};
+ghost use Rattle.lk_session.specs.Servers.{CheckDoes, IsCommitted, IsQueried, LoadDoes, Serves, Stays, by_edition, keeper_in, store_of};
 
 use lk_answer::{Scratch, ask};
 use lk_ask::AskFault;

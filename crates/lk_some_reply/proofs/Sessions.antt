@@ -16,11 +16,12 @@ use Rattle.lk_http.specs.declared.request.Got.TheVariants.{End, Req}
 use Rattle.lk_http.specs.declared.request.Request.{Request}
 use Rattle.lk_http.specs.declared.request.Target.{Target}
 use Rattle.httparse.specs.Grammar.{RequestHead}
+use Rattle.lk_turns.specs.Doings.{IsRefusal, Sent, coded, http_reply}
+use Rattle.lk_turns.specs.Runs.{AreTurns, Closes, IsOver, IsRun, IsTurn, closed_by, ended_by, how_ended, is_last}
+use Rattle.lk_turns.specs.declared.ended.Ended.{Ended}
+use Rattle.lk_turns.specs.declared.ended.Ended.TheVariants as ended
 use Rattle.lk_session.specs.Recorded.{Recorded, RecordedDoes, past_after}
-use Rattle.lk_session.specs.Runs.{AreTurns, Closes, IsOver, IsRun, IsTurn, closed_by, ended_by, how_ended, is_last}
-use Rattle.lk_session.specs.Servers.{IsRefusal, Sent, Server, coded, http_reply}
-use Rattle.lk_session.specs.declared.ended.Ended.{Ended}
-use Rattle.lk_session.specs.declared.ended.Ended.TheVariants as ended
+use Rattle.lk_session.specs.Servers.{Server}
 use Rattle.lk_complete_laws.specs.Holding.{HoldsOfSome}
 use Rattle.lk_complete_laws.proofs.NotNot.{of_these, of_this}
 use Rattle.lk_some_reply.specs.Requests.{HasMoment, IsServed}

@@ -3,11 +3,12 @@ use Rattle.std.specs.Prelude.{◌≡◌, ℕ, ℤ, List, [], ◌∷◌, Option, 
 use Rattle.std.specs.List.{AllByRecursion}
 use Rattle.lk_val.specs.Years.{IsMomentInYears}
 use Rattle.lk_http.specs.declared.request.Got.TheVariants.{End, Req}
+use Rattle.lk_turns.specs.Doings.{Doing, Sent, http_reply}
+use Rattle.lk_turns.specs.Runs.{IsRun}
+use Rattle.lk_turns.specs.declared.ended.Ended.{Ended}
+use Rattle.lk_turns.specs.declared.ended.Ended.TheVariants as ended
 use Rattle.lk_session.specs.Recorded.{Recorded, past_after}
-use Rattle.lk_session.specs.Runs.{Doing, IsRun}
-use Rattle.lk_session.specs.Servers.{RequestDoes, Sent, by_history, http_reply}
-use Rattle.lk_session.specs.declared.ended.Ended.{Ended}
-use Rattle.lk_session.specs.declared.ended.Ended.TheVariants as ended
+use Rattle.lk_session.specs.Servers.{RequestDoes, by_history}
 
 -- a request does what its target says, and a refusal has its reply: none is forgotten for want of memory
 abbrev pub ToldDoes : Doing Recorded

@@ -1,6 +1,6 @@
 use Rattle.std.proofs.Common.{refl}
 use Rattle.lk_edition.specs.Offices.{Begins, standing_in}
-use Rattle.lk_session.specs.Steps.{keeper_in}
+use Rattle.lk_session.specs.Servers.{keeper_in}
 use Rattle.lk_serve.specs.Runs.{next_moment}
 use Rattle.lk_serve.specs.Scripts.{outside}
 use Rattle.lk_serve.proofs.MomentLaws.{opened_next}

@@ -1,6 +1,6 @@
 use Rattle.std.proofs.Common.{subst, sym}
 use Rattle.lk_edition.specs.Offices.{standing_in}
-use Rattle.lk_session.specs.Steps.{keeper_in}
+use Rattle.lk_session.specs.Servers.{keeper_in}
 use Rattle.lk_serve.specs.Scripts.{HasEnded, outside}
 use Rattle.lk_serve.proofs.ScriptLaws.{has_ended}
 use Rattle.lk_serve.proofs.script.serve.Goals as goal

@@ -1,22 +1,25 @@
 use Rattle.std.proofs.Common.{arith, subst}
 use Rattle.lk_io.specs.Causes.{Rose}
-use Rattle.lk_session.proofs.StepLaws.{answered, forgot, refused_next}
-use Rattle.lk_session.proofs.WayLaws.{pulled, pulled_and_put}
+use Rattle.lk_turns.proofs.StepLaws.{answered, forgot, refused_next}
+use Rattle.lk_turns.proofs.WayLaws.{pulled, pulled_and_put}
+use Rattle.lk_session.specs.Servers.{IsForgotten, RequestDoes, by_edition}
+use Rattle.lk_session.proofs.StayLaws.{untaken}
 use Rattle.lk_session.proofs.answering.answer_next.Goals as goal
 
 pub returns-in-Ok-Req-clause-step : goal.returns-in-Ok-Req-clause-step
 returns-in-Ok-Req-clause-step g c =
-    answered _ _ _ _ _ c.read_request.new.conn _ _ _ _ _ c.in-Ok-Req.field-0 c.in-Ok-Req.request c.in-Ok-Req.field-0-is
+    answered (RequestDoes by_edition) IsForgotten _ _ _ _ _ c.read_request.new.conn _ _ _ _ _ c.in-Ok-Req.field-0 c.in-Ok-Req.request c.in-Ok-Req.field-0-is
     c.in-Ok-Req.ensures.link.same_held c.answer_request.ensures.left c.in-Ok-Req.ensures.next c.answer_request.ensures.done
 
 pub returns-in-Err-NoMemory-clause-step : goal.returns-in-Err-NoMemory-clause-step
 returns-in-Err-NoMemory-clause-step g c =
-    forgot _ _ _ _ _ c.read_request.new.conn _ _ _ _ c.in-Err-NoMemory.field-0 c.asks_close.result c.in-Err-NoMemory.field-0-is
+    forgot (RequestDoes by_edition) IsForgotten _ _ _ _ _ c.read_request.new.conn _ _ _ _ c.in-Err-NoMemory.field-0 c.asks_close.result
+    (untaken _) c.in-Err-NoMemory.field-0-is
     c.asks_close.ensures c.in-Err-NoMemory.ensures.link.same_held c.forget.ensures.left c.in-Err-NoMemory.ensures.next c.forget.ensures.sent
 
 pub returns-in-Err : goal.returns-in-Err
 returns-in-Err g c = record {
-  step = refused_next _ _ _ _ _ c.read_request.new.conn _ _ _ _ c.in-Err.fault c.refuse.ensures.some
+  step = refused_next (RequestDoes by_edition) IsForgotten _ _ _ _ _ c.read_request.new.conn _ _ _ _ c.in-Err.fault c.refuse.ensures.some
       c.in-Err.ensures.link.same_held c.refuse.ensures.left c.in-Err.ensures.next c.refuse.ensures.sent;
   ends = c.refuse.ensures.ends;
   read = λ is. absurd (c.refuse.ensures.never is);

@@ -3,14 +3,14 @@ use Rattle.std.proofs.Common.{◌<◌, ◌≤◌}
 use Rattle.std.specs.Prelude.{◌⊎◌, IfSome}
 use Rattle.lk_edition.specs.Offices.{standing_in}
 use Rattle.lk_http.specs.Ways.{Comes}
-use Rattle.lk_session.specs.Servers.{server}
-use Rattle.lk_session.specs.Steps.{Reached, keeper_in}
+use Rattle.lk_turns.specs.Steps.{Reached}
+use Rattle.lk_session.specs.Servers.{ItemDoes, by_edition, keeper_in, server}
 use Rattle.lk_session.proofs.answering.converse.Given as goal
 
 abbrev pub invariant-loop-before : goal.invariant-loop-before
 invariant-loop-before g l = record {
   below : l.before < 100000;
-  told : IfSome (g.L.Source.left l.initial.link) (λ bytes. Reached
+  told : IfSome (g.L.Source.left l.initial.link) (λ bytes. Reached (ItemDoes by_edition)
       (server (standing_in l.initial.office) (g.K.Keeper.held (keeper_in l.initial.office)) (g.K.Keeper.faults (keeper_in l.initial.office)) (g.C.Clock.moments l.initial.clock)) bytes
       (g.L.Sink.held l.initial.link) (g.L.Sink.held l.link)
       (server (standing_in l.office) (g.K.Keeper.held (keeper_in l.office)) (g.K.Keeper.faults (keeper_in l.office)) (g.C.Clock.moments l.clock))

@@ -3,22 +3,17 @@ use Rattle.std.specs.Prelude.{◌≡◌, ◌⊎◌, ℕ, ◌+◌, ◌==◌, Bool
 use Rattle.std.specs.Io.KnownBytes.{Appends}
 use Rattle.std.specs.List.{flat_map}
 use Rattle.lk_io.specs.Streams.{AppendsFront}
-use Rattle.lk_types.specs.declared.answer.Reply.{Reply}
 use Rattle.lk_http.specs.Items.{IsNext, Item, at_end, ends}
 use Rattle.lk_http.specs.Replies.{printed_reply}
 use Rattle.lk_http.specs.declared.faults.HttpFault.TheVariants as http
 use Rattle.lk_http.specs.declared.request.Got.TheVariants.{End}
-use Rattle.lk_session.specs.Servers.{Sent}
-use Rattle.lk_session.specs.declared.ended.Ended.{Ended}
-use Rattle.lk_session.specs.declared.ended.Ended.TheVariants as ended
+use Rattle.lk_turns.specs.Doings.{Doing, Sent}
+use Rattle.lk_turns.specs.declared.ended.Ended.{Ended}
+use Rattle.lk_turns.specs.declared.ended.Ended.TheVariants as ended
 
 -- the reply after so many is the last one, the 100,000th
 abbrev pub is_last : ℕ → Bool
 is_last before = before == 99999
-
--- what an item does between two replies of a connection: its reply, and what is there behind it. `S` is what is there between replies
-abbrev pub Doing : Type 0 → Type 1
-Doing S = S → Item → Reply → S → Type 0
 
 -- the next item of the bytes is answered; the connection closes after an item that asks so, and after the last reply
 pub record IsTurn {S : Type 0} (Does : Doing S) (s : S) (bytes : List ℕ) (last : Bool) (sent : Sent) (s' : S) (rest : List ℕ) : Type 0 where
@@ -106,7 +101,7 @@ abbrev pub IsRun : {S : Type 0} → Doing S → S → List ℕ → List Sent →
 IsRun Does s bytes sents s' rest how =
     NotBegun s bytes sents s' rest how ⊎ (Stopped Does s bytes sents s' rest how ⊎ Closed Does s bytes sents s' rest how)
 
--- how many replies say that the store failed (K1)
+-- how many replies say that a call failed of what they are answered from (503; RFC 9110, section 15.6.4)
 abbrev pub failures : List Sent → ℕ
 failures [] = 0
 failures (sent ∷ more) = (if sent.reply.status == 503 then 1 else 0) + failures more

@@ -1,7 +1,7 @@
 use Rattle.std.proofs.Common.{ap}
-use Rattle.lk_session.specs.Runs.{how_ended}
-use Rattle.lk_session.proofs.StepLaws.{refused}
-use Rattle.lk_session.proofs.answering.refuse.Goals as goal
+use Rattle.lk_turns.specs.Runs.{how_ended}
+use Rattle.lk_turns.proofs.StepLaws.{refused}
+use Rattle.lk_turns.proofs.answering.refuse.Goals as goal
 
 pub returns-clause-sent : goal.returns-clause-sent
 returns-clause-sent g c =

@@ -3,21 +3,17 @@ use Rattle.std.specs.Prelude.{◌≡◌, ◌⊎◌, ◌≤◌, ℕ, Bool, true, 
 use Rattle.std.specs.Io.KnownBytes.{Appends}
 use Rattle.lk_io.specs.Streams.{AppendsFront}
 use Rattle.lk_types.specs.declared.answer.Reply.{Reply}
-use Rattle.lk_edition.specs.declared.office.Office.{Office}
 use Rattle.lk_http.specs.Items.{IsNext, Item, ends}
 use Rattle.lk_http.specs.Replies.{memory_reply, printed_reply}
 use Rattle.lk_http.specs.declared.faults.HttpFault.{HttpFault}
-use Rattle.lk_session.specs.Runs.{AreTurns, IsOver, IsUnread, ended_by, printed}
-use Rattle.lk_session.specs.Servers.{IsRefusal, ItemDoes, Sent, Server, by_edition, http_reply}
-use Rattle.lk_session.specs.declared.ended.Ended.{Ended}
-use Rattle.lk_session.specs.declared.ended.Ended.TheVariants as ended
+use Rattle.lk_turns.specs.Doings.{Doing, IsRefusal, Sent, http_reply}
+use Rattle.lk_turns.specs.Runs.{AreTurns, IsOver, IsUnread, ended_by, printed}
+use Rattle.lk_turns.specs.declared.ended.Ended.{Ended}
+use Rattle.lk_turns.specs.declared.ended.Ended.TheVariants as ended
 
-abbrev pub keeper_in : {K : Type 0} → Office K → K
-keeper_in office = office.keeper
-
--- no count of faults falls: of the store, of pulls and of puts
-pub record NeverFall (store store' reads reads' writes writes' : ℕ) : Type 0 where
-  pub store_count : store ≤ store'
+-- no count of faults falls: of what the replies are answered from, of pulls and of puts
+pub record NeverFall (calls calls' reads reads' writes writes' : ℕ) : Type 0 where
+  pub call_count : calls ≤ calls'
   pub read_count : reads ≤ reads'
   pub write_count : writes ≤ writes'
 
@@ -42,21 +38,21 @@ pub record IsRefused (fault : HttpFault) (last : Bool) (held held' : Option (Lis
   pub out : IsSent held held' reply (ends (Err fault) || last) (ended_by last (Err fault)) result
 
 -- an item was answered
-pub record IsDone (s : Server) (item : Item) (last : Bool) (held held' : Option (List ℕ)) (s' : Server) (result : Option Ended) : Type 0 where
+pub record IsDone {S : Type 0} (Does : Doing S) (s : S) (item : Item) (last : Bool) (held held' : Option (List ℕ)) (s' : S) (result : Option Ended) : Type 0 where
   pub reply : Reply
-  pub does : ItemDoes by_edition s item reply s'
+  pub does : Does s item reply s'
   pub out : IsSent held held' reply (ends item || last) (ended_by last item) result
 
 -- the next item was answered
-pub record Answers (s : Server) (bytes : List ℕ) (last : Bool) (held held' : Option (List ℕ)) (s' : Server) (left' : Option (List ℕ)) (result : Option Ended) : Type 0 where
+pub record Answers {S : Type 0} (Does : Doing S) (s : S) (bytes : List ℕ) (last : Bool) (held held' : Option (List ℕ)) (s' : S) (left' : Option (List ℕ)) (result : Option Ended) : Type 0 where
   pub item : Item
   pub rest : List ℕ
   pub next : IsNext bytes (item, rest)
   pub left : left' ≡ Some rest
-  pub done : IsDone s item last held held' s' result
+  pub done : IsDone Does s item last held held' s' result
 
 -- there was nothing to answer
-pub record Stops (s : Server) (bytes : List ℕ) (held held' : Option (List ℕ)) (s' : Server) (left' : Option (List ℕ)) (result : Option Ended) : Type 0 where
+pub record Stops {S : Type 0} (s : S) (bytes : List ℕ) (held held' : Option (List ℕ)) (s' : S) (left' : Option (List ℕ)) (result : Option Ended) : Type 0 where
   pub how : Ended
   pub rest : List ℕ
   pub left : left' ≡ Some rest
@@ -65,15 +61,15 @@ pub record Stops (s : Server) (bytes : List ℕ) (held held' : Option (List ℕ)
   pub is : result ≡ Some how
   pub stop : IsOver bytes rest how ⊎ IsUnread bytes rest how
 
-abbrev pub IsStep : Server → List ℕ → Bool → Option (List ℕ) → Option (List ℕ) → Server → Option (List ℕ) → Option Ended → Type 0
-IsStep s bytes last held held' s' left' result =
-    Answers s bytes last held held' s' left' result ⊎ Stops s bytes held held' s' left' result
+abbrev pub IsStep : {S : Type 0} → Doing S → S → List ℕ → Bool → Option (List ℕ) → Option (List ℕ) → S → Option (List ℕ) → Option Ended → Type 0
+IsStep Does s bytes last held held' s' left' result =
+    Answers Does s bytes last held held' s' left' result ⊎ Stops s bytes held held' s' left' result
 
 -- after so many replies, all of which went out, the connection is open
-pub record Reached (s : Server) (bytes : List ℕ) (held held' : Option (List ℕ)) (s' : Server) (left' : Option (List ℕ)) (count : ℕ) : Type 0 where
+pub record Reached {S : Type 0} (Does : Doing S) (s : S) (bytes : List ℕ) (held held' : Option (List ℕ)) (s' : S) (left' : Option (List ℕ)) (count : ℕ) : Type 0 where
   pub sents : List Sent
   pub rest : List ℕ
   pub left : left' ≡ Some rest
-  pub turns : AreTurns (ItemDoes by_edition) 0 s bytes sents s' rest
+  pub turns : AreTurns Does 0 s bytes sents s' rest
   pub many : length sents ≡ count
   pub out : Appends held held' (printed sents)

@@ -1,5 +1,5 @@
--- Pulls and then puts are pulls and puts.
-use Rattle.std.proofs.Common.{ℕ, zero, suc, inl, inr, subst, sym}
+-- Ways of an object: pulls and then puts are pulls and puts, and what no step changes is as it was.
+use Rattle.std.proofs.Common.{◌≡◌, ◌∙◌, ℕ, zero, suc, ap, inl, inr, refl, subst, sym}
 use Rattle.std.specs.Prelude.{◌⊎◌}
 use Rattle.lk_http.specs.Ways.{After, Comes}
 
@@ -10,6 +10,21 @@ way_on R (suc count) a b c way (m, before, last) = let here = way_on R count a b
 -- a way behind another
 pub way_behind : {S : Type 0} (R : S → S → Type 0) (a b c : S) → Comes R a b → Comes R b c → Comes R a c
 way_behind R a b c way (count, more) = way_on R count a b c way more
+
+-- no step, and one
+pub still : {S : Type 0} (R : S → S → Type 0) (a : S) → Comes R a a
+still R a = (0, refl)
+
+pub once : {S : Type 0} (R : S → S → Type 0) (a b : S) → R a b → Comes R a b
+once R a b step = (1, (a, refl, step))
+
+kept_after : {S V : Type 0} (R : S → S → Type 0) (f : S → V) → ((a b : S) → R a b → f b ≡ f a) → (count : ℕ) (a b : S) → After R count a b → f b ≡ f a
+kept_after R f step zero a b same = ap f same
+kept_after R f step (suc count) a b (m, before, last) = step m b last ∙ kept_after R f step count a m before
+
+-- what no step changes is as it was at the first
+pub kept_along : {S V : Type 0} (R : S → S → Type 0) (f : S → V) → ((a b : S) → R a b → f b ≡ f a) → (a b : S) → Comes R a b → f b ≡ f a
+kept_along R f step a b (count, way) = kept_after R f step count a b way
 
 after_within : {S : Type 0} (R Q : S → S → Type 0) → ((a b : S) → R a b → Q a b) → (count : ℕ) (a b : S) → After R count a b → After Q count a b
 after_within R Q within zero a b same = same

@@ -1,5 +1,5 @@
 ghost use Rattle.std.specs.Prelude.{◌≡◌, false, option_map};
-ghost use Rattle.lk_session.specs.Servers.{http_reply};
+ghost use Rattle.lk_turns.specs.Doings.{http_reply};
 
 use lk_http::HttpFault;
 

@@ -1,0 +1,4 @@
+pub mod FailureLaws
+pub mod RunLaws
+pub mod StepLaws
+pub mod WayLaws
