@@ -1,0 +1,4 @@
+pub mod Outcomes
+pub mod Holdings
+pub mod Steps
+pub mod Told
