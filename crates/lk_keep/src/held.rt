@@ -4,19 +4,19 @@ use crate::sql_keeper::SqlKeeper;
 use lk_ledger::{Command, KeepFault, Keeper, Kept, MemKeeper};
 use std::alloc::Global;
 
-/// The store of a run: in memory, which tells what it holds, or in a file.
+/// The store of a run: in memory, which tells what it holds, or in a file, of which it tells what `F` does: nothing, by default.
 #[derive(Drop)]
-pub enum Held {
+pub enum Held<F = SqlKeeper> {
     Memory(MemKeeper),
-    File(SqlKeeper),
+    File(F),
 }
 
-impl Keeper for Held {
-    ghost held = { told_by };
+impl<F: Keeper> Keeper for Held<F> {
+    ghost held = { told_by F.held };
 
-    ghost handed = { handed_by };
+    ghost handed = { handed_by F.handed };
 
-    ghost faults = { faults_of };
+    ghost faults = { faults_of F.faults };
 
     fn load_all(&mut self, alloc: Global) -> Result<Kept, KeepFault> {
         match self {

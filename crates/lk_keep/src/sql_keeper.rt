@@ -20,13 +20,14 @@ use std::rt::HostRuntime;
 use writing::{write_check, write_load};
 
 /// A store of loads in a file of SQLite. It tells nothing. It opens the file at its first call, and anew
-/// after a call that failed. Each refusal but want of memory is a fault. (lookd)
+/// after a call that failed. Each refusal but want of memory is a fault. `C` is the open file: a parameter, so that the prover sees
+/// that a thread may be given the store without looking into it. (lookd)
 #[derive(Drop)]
-pub struct SqlKeeper {
+pub struct SqlKeeper<C = Connection<FileStore<File>>> {
     rt: HostRuntime,
     path: Text,
     // The open file; none before the first call, nor after one that failed.
-    opened: Option<Connection<FileStore<File>>>,
+    opened: Option<C>,
     faults: u64,
 }
 
