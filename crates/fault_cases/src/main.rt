@@ -15,29 +15,38 @@ mod store;
 use case::answer_line;
 use running::Base;
 use std::io;
+use std::sync::Wait;
+use std::thread::Threads;
 use store::Store;
 
 fn main(rt: HostRuntime) -> io::Result<()> {
     let mut base = Base::new(rt.alloc());
     let mut store = Store::none();
-    answer_lines(&rt, &mut base, &mut store)
+    answer_lines(&rt, &rt, &mut base, &mut store)
 }
 
-fn answer_lines(rt: &HostRuntime, base: &mut Base, store: &mut Store) -> io::Result<()> {
+// `threads` is the runtime again, of which `main` alone knows that it has threads.
+fn answer_lines<R: Threads + Wait + Sync + AllocGlobal>(
+    rt: &HostRuntime,
+    threads: &R,
+    base: &mut Base,
+    store: &mut Store,
+) -> io::Result<()> {
     for line in rt.lines(rt.alloc()) {
         let line = line?;
-        print_answer(rt, base, store, line.as_str())?;
+        print_answer(rt, threads, base, store, line.as_str())?;
     }
     Ok(())
 }
 
-fn print_answer(
+fn print_answer<R: Threads + Wait + Sync + AllocGlobal>(
     rt: &HostRuntime,
+    threads: &R,
     base: &mut Base,
     store: &mut Store,
     line: &str,
 ) -> io::Result<()> {
-    match answer_line(rt, base, store, line) {
+    match answer_line(rt, threads, base, store, line) {
         Ok(answer) => {
             let answer = answer.as_str();
             println!(rt; "{answer}")

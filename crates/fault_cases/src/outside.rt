@@ -1,13 +1,14 @@
 // What stands around a run. The fields of `outside` are `input 1 fails`, `output 2 fails` and `store 0 fails`, which let a call
 // fail, counted from 0; `clock of 60 seconds`, so many between a moment and the next; `room of 20 bytes` for the output; `store of
-// 3 loads`, of one row each, whose batches are gone; `batch TABLE of TEXT`, one load more of one row, whose batch is there; and
+// 3 loads`, of one row each, whose batches are gone; `door fails`, of which each call does; `batch TABLE of TEXT`, one load more of one row, whose batch is there; and
 // `store at 9`, the store's number in place of how many loads there are. The fields of files are `PATH = TEXT`, in place of a file
 // that stands there, `PATH` alone, which takes it away, and `call 3 fails`.
 
 use crate::fault::CaseFault;
 use crate::fields::{bytes_of, failing, number_in, parted};
-use lk_io::{File, MemClock, MemFiles, MemSink, MemSource};
+use lk_io::{File, MemClock, MemFiles, MemLink, MemSink, MemSource};
 use lk_keep::{Chunk, Kept, KeptId, MemKeeper};
+use lk_listen::MemDoor;
 use lk_val::{Items, NoMemory, Text};
 use std::alloc::Global;
 
@@ -69,6 +70,15 @@ pub fn clock_at(alloc: Global, outside: &str, now: i64) -> Result<MemClock, NoMe
     }
     moments.push(moment)?;
     Ok(MemClock::new(moments))
+}
+
+/// A door without connections, which ends at once, or one whose every call fails.
+pub fn door_of(alloc: Global, outside: &str) -> MemDoor<MemLink> {
+    if outside.split(" | ").any(|field| field == "door fails") {
+        MemDoor::broken(alloc)
+    } else {
+        MemDoor::new(Items::new(alloc), Items::new(alloc))
+    }
 }
 
 /// A store in memory.

@@ -31,7 +31,7 @@ use Rattle.lk_serve.specs.Opened.{IsOpened, Opens, OpenedAs, OverFiles, OverLoad
 use Rattle.lk_serve.specs.Outcomes.{IsReply, IsReplyTo}
 use Rattle.lk_serve.specs.Queries.{IsAnswered, IsQueried, OverBody, OverEdition, OverOpened, TellsAnswer, small_input}
 use Rattle.lk_serve.specs.Replies.{usage_reply}
-use Rattle.lk_serve.specs.Words.{Asked, asked_by, unknown, check, query, script}
+use Rattle.lk_serve.specs.Words.{Asked, asked_by, unknown, check, query, script, serve}
 use Rattle.lk_serve.specs.declared.replies.Reply.{Reply}
 use Rattle.lk_one_reply.specs.Told.{IsTold, SaysOne}
 
@@ -208,6 +208,7 @@ module _ (one_load : OneLoad) (one_told : OneReplied) where
   one_by check files begins input now a b one_kept h k = one_checked files a b h k
   one_by (query user explore) files begins input now a b one_kept h k = one_queried files begins user explore input now a b one_kept h k
   one_by script files begins input now a b one_kept h k = absurd h
+  one_by (serve workers) files begins input now a b one_kept h k = absurd h
 
   pub one_reply : (words : List (List ℕ)) (files : List File) (begins : Kept → Type 0) (input : List ℕ) (now : ℤ) (a b : Reply) → SaysOne begins
       → IsReply words (Some files) begins (Some input) (Some now) a → IsReply words (Some files) begins (Some input) (Some now) b → a ≡ b

@@ -1,4 +1,5 @@
 pub mod ConsoleLaws
+pub mod ListeningLaws
 pub mod MomentLaws
 pub mod OpenedLaws
 pub mod QueryLaws

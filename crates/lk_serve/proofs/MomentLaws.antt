@@ -5,10 +5,12 @@ use Rattle.lk_io.specs.declared.files.File.{File}
 use Rattle.lk_ledger.specs.declared.kept.Kept.{Kept}
 use Rattle.lk_edition.specs.Histories.{Stands}
 use Rattle.lk_edition.specs.Standings.{Standing}
-use Rattle.lk_serve.specs.Opened.{HasOpened, IsOpened, IsOpenedNext}
+use Rattle.lk_serve.specs.Opened.{HasOpened, IsOpened, IsOpenedBy, IsOpenedNext, IsOpenedNextBy}
 use Rattle.lk_serve.specs.Openings.{IsWhy}
 use Rattle.lk_serve.specs.Queries.{IsQueried, OverEdition}
 use Rattle.lk_serve.specs.Runs.{next_moment}
+use Rattle.lk_serve.specs.declared.opening.DataFiles.{DataFiles}
+use Rattle.lk_serve.specs.declared.opening.DataFiles.TheVariants as data_files
 use Rattle.lk_serve.specs.declared.opening.Why.{Why}
 use Rattle.lk_serve.specs.declared.opening.Why.TheVariants as why
 use Rattle.lk_serve.specs.declared.replies.Reply.{Reply}
@@ -44,27 +46,27 @@ unqueried_then begins user explore next input None reply h = tt
 unqueried_then begins user explore next input (Some told) reply h = line_then begins user explore next input told reply h
 
 -- what opens at the moment that a clock gave opens at its next, as far as it tells
-pub opened_next : (begins : Kept → Type 0) (now : ℤ) (next : Option ℤ) (e : Standing) → IfSome next (λ moment. now ≡ moment)
-    → (files : Option (List File)) → IfSome files (λ told. IsOpened told begins now (Ok e)) → IfSome files (λ told. IsOpenedNext told begins next (Ok e))
-opened_next begins now next e is None h = tt
-opened_next begins now next e is (Some told) h = record { moment = now; is_next = is; is = h }
+pub opened_next : (which : DataFiles) (begins : Kept → Type 0) (now : ℤ) (next : Option ℤ) (e : Standing) → IfSome next (λ moment. now ≡ moment)
+    → (files : Option (List File)) → IfSome files (λ told. IsOpenedBy which told begins now (Ok e)) → IfSome files (λ told. IsOpenedNextBy which told begins next (Ok e))
+opened_next which begins now next e is None h = tt
+opened_next which begins now next e is (Some told) h = record { moment = now; is_next = is; is = h }
 
-why_next : (begins : Kept → Type 0) (now : ℤ) (next : Option ℤ) (reason : Why) (files : List File) → IfSome next (λ moment. now ≡ moment)
-    → IsWhy (λ reply. IsOpened files begins now (Err reply)) reason → IsWhy (λ reply. IsOpenedNext files begins next (Err reply)) reason
-why_next begins now next (why.Told reply) files is h = record { moment = now; is_next = is; is = h }
-why_next begins now next why.Store files is h = tt
-why_next begins now next why.Files files is h = tt
-why_next begins now next why.Memory files is h = tt
+why_next : (which : DataFiles) (begins : Kept → Type 0) (now : ℤ) (next : Option ℤ) (reason : Why) (files : List File) → IfSome next (λ moment. now ≡ moment)
+    → IsWhy (λ reply. IsOpenedBy which files begins now (Err reply)) reason → IsWhy (λ reply. IsOpenedNextBy which files begins next (Err reply)) reason
+why_next which begins now next (why.Told reply) files is h = record { moment = now; is_next = is; is = h }
+why_next which begins now next why.Store files is h = tt
+why_next which begins now next why.Files files is h = tt
+why_next which begins now next why.Memory files is h = tt
 
-pub unopened_next : (begins : Kept → Type 0) (now : ℤ) (next : Option ℤ) (reason : Why) → IfSome next (λ moment. now ≡ moment)
-    → (files : Option (List File)) → IfSome files (λ told. IsWhy (λ reply. IsOpened told begins now (Err reply)) reason)
-    → IfSome files (λ told. IsWhy (λ reply. IsOpenedNext told begins next (Err reply)) reason)
-unopened_next begins now next reason is None h = tt
-unopened_next begins now next reason is (Some told) h = why_next begins now next reason told is h
+pub unopened_next : (which : DataFiles) (begins : Kept → Type 0) (now : ℤ) (next : Option ℤ) (reason : Why) → IfSome next (λ moment. now ≡ moment)
+    → (files : Option (List File)) → IfSome files (λ told. IsWhy (λ reply. IsOpenedBy which told begins now (Err reply)) reason)
+    → IfSome files (λ told. IsWhy (λ reply. IsOpenedNextBy which told begins next (Err reply)) reason)
+unopened_next which begins now next reason is None h = tt
+unopened_next which begins now next reason is (Some told) h = why_next which begins now next reason told is h
 
 -- the project had opened where the input stops the run
 pub input_opened : (begins : Kept → Type 0) (e : Standing) (now : ℤ) (next : Option ℤ) (files : Option (List File)) (r : Result Reply Stop) → Stands e [] → IfSome next (λ moment. now ≡ moment)
     → IfSome files (λ told. IsOpened told begins now (Ok e)) → IfErr r (λ reason. reason ≡ stop.Input → HasOpened files begins next)
 input_opened begins e now next files (Ok reply) stands is opened = tt
 input_opened begins e now next files (Err reason) stands is opened =
-    λ _. record { e = e; stands = stands; is = opened_next begins now next e is files opened }
+    λ _. record { e = e; stands = stands; is = opened_next data_files.Read begins now next e is files opened }

@@ -1,6 +1,7 @@
 pub mod Checks
 pub mod Consoles
 pub mod Keeping
+pub mod Listening
 pub mod Opened
 pub mod Openings
 pub mod Outcomes

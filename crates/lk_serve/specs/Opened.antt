@@ -5,6 +5,7 @@ use Rattle.lk_val.specs.declared.fault.ModelFault.{ModelFault}
 use Rattle.lk_val.specs.declared.fault.ModelFault.TheVariants as model
 use Rattle.lk_io.specs.declared.files.File.{File}
 use Rattle.lk_types.specs.Printing.{value_text}
+use Rattle.lk_types.specs.declared.schema.TableDef.{TableDef}
 use Rattle.lk_table.specs.declared.fault.BatchFault.{BatchFault}
 use Rattle.lk_table.specs.declared.fault.BatchFault.TheVariants as batch
 use Rattle.lk_include.specs.Gathering.{file_line}
@@ -23,6 +24,8 @@ use Rattle.lk_edition.specs.Histories.{Stands}
 use Rattle.lk_edition.specs.Offices.{IsOpening}
 use Rattle.lk_edition.specs.Standings.{Standing}
 use Rattle.lk_serve.specs.Replies.{fault_reply}
+use Rattle.lk_serve.specs.declared.opening.DataFiles.{DataFiles}
+use Rattle.lk_serve.specs.declared.opening.DataFiles.TheVariants as data_files
 use Rattle.lk_serve.specs.declared.replies.Reply.{Reply}
 
 -- ---- the seeds of an opening
@@ -90,26 +93,45 @@ OverFiles loaded begins now (Err (project.Model fault)) result = result ≡ Err 
 OverFiles loaded begins now (Err project.Failed) result = ⊥
 OverFiles loaded begins now (Err project.NoMemory) result = ⊥
 
-abbrev pub OverLoaded : List File → (Kept → Type 0) → ℤ → Result Loaded ProjectFault → Result Standing Reply → Type 0
-OverLoaded files begins now (Ok loaded) result = OverFiles loaded begins now (seeds_of loaded.model.schema.tables files) result
-OverLoaded files begins now (Err (project.Model fault)) result = result ≡ Err (fault_reply fault)
-OverLoaded files begins now (Err project.Failed) result = ⊥
-OverLoaded files begins now (Err project.NoMemory) result = ⊥
+-- the batches that an opening puts in place of the rows of their tables: those of the data files, where it reads them
+abbrev pub batches_of : DataFiles → List TableDef → List File → Result (List seeds.Seed) ProjectFault
+batches_of data_files.Read tables files = seeds_of tables files
+batches_of data_files.Unread tables files = Ok []
+
+abbrev pub OverBatches : DataFiles → List File → (Kept → Type 0) → ℤ → Result Loaded ProjectFault → Result Standing Reply → Type 0
+OverBatches which files begins now (Ok loaded) result = OverFiles loaded begins now (batches_of which loaded.model.schema.tables files) result
+OverBatches which files begins now (Err (project.Model fault)) result = result ≡ Err (fault_reply fault)
+OverBatches which files begins now (Err project.Failed) result = ⊥
+OverBatches which files begins now (Err project.NoMemory) result = ⊥
 
 -- the edition that a folder's project opens at a moment over what a store handed over, or the line on why it does not
-pub record IsOpened (files : List File) (begins : Kept → Type 0) (now : ℤ) (result : Result Standing Reply) : Type 0 where
+pub record IsOpenedBy (which : DataFiles) (files : List File) (begins : Kept → Type 0) (now : ℤ) (result : Result Standing Reply) : Type 0 where
   pub loaded : Result Loaded ProjectFault
   pub is_load : IsLoadOf files loaded
-  pub over : OverLoaded files begins now loaded result
+  pub over : OverBatches which files begins now loaded result
 
 -- the same at the next moment of a clock, as far as it tells
-pub record IsOpenedNext (files : List File) (begins : Kept → Type 0) (next : Option ℤ) (result : Result Standing Reply) : Type 0 where
+pub record IsOpenedNextBy (which : DataFiles) (files : List File) (begins : Kept → Type 0) (next : Option ℤ) (result : Result Standing Reply) : Type 0 where
   pub moment : ℤ
   pub is_next : IfSome next (λ told. moment ≡ told)
-  pub is : IsOpened files begins moment result
+  pub is : IsOpenedBy which files begins moment result
 
 -- it opened so with an edition whose history is its state alone
-pub record HasOpened (files : Option (List File)) (begins : Kept → Type 0) (next : Option ℤ) : Type 0 where
+pub record HasOpenedBy (which : DataFiles) (files : Option (List File)) (begins : Kept → Type 0) (next : Option ℤ) : Type 0 where
   pub e : Standing
   pub stands : Stands e []
-  pub is : IfSome files (λ told. IsOpenedNext told begins next (Ok e))
+  pub is : IfSome files (λ told. IsOpenedNextBy which told begins next (Ok e))
+
+-- ---- the same with the data files
+
+abbrev pub OverLoaded : List File → (Kept → Type 0) → ℤ → Result Loaded ProjectFault → Result Standing Reply → Type 0
+OverLoaded files begins now loaded result = OverBatches data_files.Read files begins now loaded result
+
+abbrev pub IsOpened : List File → (Kept → Type 0) → ℤ → Result Standing Reply → Type 0
+IsOpened files begins now result = IsOpenedBy data_files.Read files begins now result
+
+abbrev pub IsOpenedNext : List File → (Kept → Type 0) → Option ℤ → Result Standing Reply → Type 0
+IsOpenedNext files begins next result = IsOpenedNextBy data_files.Read files begins next result
+
+abbrev pub HasOpened : Option (List File) → (Kept → Type 0) → Option ℤ → Type 0
+HasOpened files begins next = HasOpenedBy data_files.Read files begins next

@@ -8,29 +8,34 @@ use Rattle.lk_state.specs.declared.fault.OpenFault.{OpenFault}
 use Rattle.lk_state.specs.declared.fault.OpenFault.TheVariants as opening
 use Rattle.lk_resolve.specs.Loading.{IsLoadOf}
 use Rattle.lk_resolve.specs.declared.loading.Loaded.{Loaded}
-use Rattle.lk_seed.specs.Seeds.{seeds_of}
 use Rattle.lk_seed.specs.Seeds as seeds
 use Rattle.lk_include.specs.declared.project.ProjectFault.{ProjectFault}
 use Rattle.lk_include.specs.declared.project.ProjectFault.TheVariants as project
 use Rattle.lk_serve.specs.Replies.{fault_reply}
-use Rattle.lk_serve.specs.Opened.{Opens, TellsLine, line_of, numbered, open_line}
+use Rattle.lk_serve.specs.Opened.{Opens, TellsLine, batches_of, line_of, numbered, open_line}
+use Rattle.lk_serve.specs.declared.opening.DataFiles.{DataFiles}
+use Rattle.lk_serve.specs.declared.opening.DataFiles.TheVariants as data_files
 use Rattle.lk_serve.specs.declared.opening.Why.{Why}
 use Rattle.lk_serve.specs.declared.opening.Why.TheVariants as why
 use Rattle.lk_serve.specs.declared.replies.Reply.{Reply}
 use Rattle.lk_serve.specs.declared.replies.Status.TheVariants.{Faulty}
 
--- the project loads, and these are the batches of its data files
-pub record IsProject (files : List File) (loaded : Loaded) (given : List Seed) : Type 0 where
+-- the project loads, and these are the batches of its data files, where these are read
+pub record IsProjectBy (which : DataFiles) (files : List File) (loaded : Loaded) (given : List Seed) : Type 0 where
   pub is_load : IsLoadOf files (Ok loaded)
   pub found : List seeds.Seed
-  pub is_found : Ok found ≡ seeds_of loaded.model.schema.tables files
+  pub is_found : Ok found ≡ batches_of which loaded.model.schema.tables files
   pub numbers : given ≡ numbered 0 found
 
--- the files have no line: the project loads, and its data files give batches
-pub record HasProject (files : List File) : Type 0 where
+-- the files have no line: the project loads, and its data files, where they are read, give batches
+pub record HasProjectBy (which : DataFiles) (files : List File) : Type 0 where
   pub loaded : Loaded
   pub given : List Seed
-  pub is : IsProject files loaded given
+  pub is : IsProjectBy which files loaded given
+
+-- the same with the data files
+abbrev pub HasProject : List File → Type 0
+HasProject files = HasProjectBy data_files.Read files
 
 -- a batch behind some, where its table has one
 abbrev pub with_seed : List Seed → ℕ → seeds.Seed → List Seed
@@ -59,17 +64,17 @@ IsFileLine (Err project.Failed) reply = ⊥
 IsFileLine (Err project.NoMemory) reply = ⊥
 
 -- a project that loads so opens nothing over any store, with this line
-abbrev pub IsUnserved : List File → Result Loaded ProjectFault → Reply → Type 0
-IsUnserved files (Ok loaded) reply = IsFileLine (seeds_of loaded.model.schema.tables files) reply
-IsUnserved files (Err (project.Model fault)) reply = reply ≡ fault_reply fault
-IsUnserved files (Err project.Failed) reply = ⊥
-IsUnserved files (Err project.NoMemory) reply = ⊥
+abbrev pub IsUnservedBy : DataFiles → List File → Result Loaded ProjectFault → Reply → Type 0
+IsUnservedBy which files (Ok loaded) reply = IsFileLine (batches_of which loaded.model.schema.tables files) reply
+IsUnservedBy which files (Err (project.Model fault)) reply = reply ≡ fault_reply fault
+IsUnservedBy which files (Err project.Failed) reply = ⊥
+IsUnservedBy which files (Err project.NoMemory) reply = ⊥
 
 -- the files open nothing over any store, with this line
-pub record IsLine (files : List File) (reply : Reply) : Type 0 where
+pub record IsLineBy (which : DataFiles) (files : List File) (reply : Reply) : Type 0 where
   pub loaded : Result Loaded ProjectFault
   pub is_load : IsLoadOf files loaded
-  pub over : IsUnserved files loaded reply
+  pub over : IsUnservedBy which files loaded reply
 
 -- ---- faults
 

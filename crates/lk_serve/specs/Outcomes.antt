@@ -6,7 +6,7 @@ use Rattle.lk_ledger.specs.declared.kept.Kept.{Kept}
 use Rattle.lk_serve.specs.Checks.{IsChecked}
 use Rattle.lk_serve.specs.Queries.{IsQueried}
 use Rattle.lk_serve.specs.Replies.{usage_reply}
-use Rattle.lk_serve.specs.Words.{Asked, asked_by, unknown, check, query, script}
+use Rattle.lk_serve.specs.Words.{Asked, asked_by, unknown, check, query, script, serve}
 use Rattle.lk_serve.specs.declared.replies.Reply.{Reply}
 
 -- a reply to what the words ask for, over a store that begins with something of which `begins` holds, as far as files, input and
@@ -16,6 +16,7 @@ IsReplyTo unknown files begins input now reply = reply ≡ usage_reply
 IsReplyTo check files begins input now reply = IfSome files (λ told. IsChecked told reply)
 IsReplyTo (query user explore) files begins input now reply = IfSome files (λ told. IsQueried told begins user explore input now reply)
 IsReplyTo script files begins input now reply = ⊥
+IsReplyTo (serve workers) files begins input now reply = ⊥
 
 -- a reply to words over files, a store, an input and the next moment, as far as these are told
 unfoldable pub IsReply : List (List ℕ) → Option (List File) → (Kept → Type 0) → Option (List ℕ) → Option ℤ → Reply → Type 0

@@ -11,9 +11,11 @@ use Rattle.lk_turns.specs.declared.ended.Ended.{Ended}
 use Rattle.lk_turns.specs.declared.ended.Ended.TheVariants as ended
 use Rattle.lk_session.specs.Recorded.{IsRecorded}
 use Rattle.lk_session.specs.Servers.{server}
-use Rattle.lk_serve.specs.Opened.{HasOpened, IsOpenedNext, TellsLine}
-use Rattle.lk_serve.specs.Openings.{HasProject}
+use Rattle.lk_serve.specs.Opened.{HasOpened, IsOpenedNextBy, TellsLine}
+use Rattle.lk_serve.specs.Openings.{HasProjectBy}
 use Rattle.lk_serve.specs.Runs.{IsAskedOnce, next_moment}
+use Rattle.lk_serve.specs.declared.opening.DataFiles.{DataFiles}
+use Rattle.lk_serve.specs.declared.opening.DataFiles.TheVariants as data_files
 use Rattle.lk_serve.specs.declared.replies.Reply.{Reply}
 
 -- ---- the end
@@ -48,17 +50,17 @@ pub record IsUntouched (a b : Outside) : Type 0 where
   pub left : b.left ≡ a.left
 
 -- the server did not open, and the line on it went out (1), or a front of it (4)
-pub record DidNotOpen (files : Option (List File)) (begins : Kept → Type 0) (a b : Outside) (status : ℕ) : Type 0 where
+pub record DidNotOpenBy (which : DataFiles) (files : Option (List File)) (begins : Kept → Type 0) (a b : Outside) (status : ℕ) : Type 0 where
   pub reply : Reply
   pub tells : TellsLine reply
-  pub is : IfSome files (λ told. IsOpenedNext told begins (next_moment a.moments) (Err reply))
+  pub is : IfSome files (λ told. IsOpenedNextBy which told begins (next_moment a.moments) (Err reply))
   pub untouched : IsUntouched a b
   pub asked : IsAskedOnce a.moments b.moments
   pub out : ((status ≡ 1) × Appends a.out b.out reply.body) ⊎ ((status ≡ 4) × AppendsFront a.out b.out reply.body)
 
 -- the run stopped before it had a server or a line: for the store (5), which is read where the files have no line, for memory (6), or for the files (7)
-pub record Stopped (files : Option (List File)) (a b : Outside) (status : ℕ) : Type 0 where
-  pub project : IfSome files (λ told. status ≡ 5 → HasProject told)
+pub record StoppedBy (which : DataFiles) (files : Option (List File)) (a b : Outside) (status : ℕ) : Type 0 where
+  pub project : IfSome files (λ told. status ≡ 5 → HasProjectBy which told)
   pub status_is : (status ≡ 5) ⊎ ((status ≡ 6) ⊎ (status ≡ 7))
   pub untouched : IsUntouched a b
   pub asked : IsAskedOnce a.moments b.moments
@@ -83,7 +85,7 @@ pub record Served (files : Option (List File)) (begins : Kept → Type 0) (a b :
 
 -- what `script` does, over files and what the store hands over
 abbrev pub HasServed : Option (List File) → (Kept → Type 0) → Outside → Outside → ℕ → Type 0
-HasServed files begins a b status = Served files begins a b status ⊎ (DidNotOpen files begins a b status ⊎ Stopped files a b status)
+HasServed files begins a b status = Served files begins a b status ⊎ (DidNotOpenBy data_files.Read files begins a b status ⊎ StoppedBy data_files.Read files a b status)
 
 -- the run is a session of this server
 pub record HasEnded (e : Standing) (a b : Outside) (status : ℕ) : Type 0 where

@@ -14,9 +14,10 @@ ghost use Rattle.lk_state.specs.declared.fault.OpenFault.{OpenFault};
 ghost use Rattle.lk_edition.specs.Histories.{Stands};
 ghost use Rattle.lk_edition.specs.Offices.{Begins, IsOpening, standing_in};
 ghost use Rattle.lk_session.specs.Servers.{keeper_in};
-ghost use Rattle.lk_serve.specs.Opened.{IsOpened, IsOpenedNext, Opens, numbered, open_fault, open_line, unread_fault, unread_line};
-ghost use Rattle.lk_serve.specs.Openings.{HasProject, HasWhyCause, IsFaulty, IsLine, IsProject, IsUnserved, IsWhy, OpensNot, ProjectNot, TellsFault, with_seed};
+ghost use Rattle.lk_serve.specs.Opened.{IsOpenedBy, IsOpenedNextBy, Opens, batches_of, numbered, open_fault, open_line, unread_fault, unread_line};
+ghost use Rattle.lk_serve.specs.Openings.{HasProjectBy, HasWhyCause, IsFaulty, IsLineBy, IsProjectBy, IsUnservedBy, IsWhy, OpensNot, ProjectNot, TellsFault, with_seed};
 ghost use Rattle.lk_serve.specs.Runs.{IsAskedOnce, next_moment};
+ghost use Rattle.lk_serve.specs.declared.opening.DataFiles.{DataFiles};
 ghost use Rattle.lk_serve.specs.declared.opening.Why.{Why};
 
 use crate::replies::{Reply, fault_found};
@@ -31,6 +32,15 @@ use lk_table::BatchFault;
 use lk_types::{Shape, print_cell};
 use lk_val::{Bytes, Cell, FaultLine, Items, ModelFault, NoMemory, Text, Value};
 use std::alloc::Global;
+
+/// Whether an opening puts the batches of a project's data files in place of the rows of their tables.
+#[derive(Clone, Copy)]
+pub enum DataFiles {
+    /// For a query or the requests of an input, over an empty store.
+    Read,
+    /// For connections, over the store in the folder: their tables hold what was loaded, and nothing else.
+    Unread,
+}
 
 /// Why a project did not open.
 #[derive(Drop)]
@@ -47,6 +57,7 @@ pub enum Why {
 
 impl From<NoMemory> for Why {
     ghost use Rattle.std.specs.Prelude.{◌≡◌};
+    ghost use Rattle.lk_serve.specs.declared.opening.DataFiles.{DataFiles};
     ghost use Rattle.lk_serve.specs.declared.opening.Why.{Why};
 
     ghost from_gives = { λ _ why. why ≡ Why.Memory };
@@ -78,22 +89,24 @@ struct Opening {
 
 /// The server that a folder's project opens over a store, or why it does not: the first fault of the project, a data file that is
 /// too big (P1), the first kept batch that does not read (O1), the first data file that does not read (L3, L5, L4), tables over a
-/// limit (L6), or a build that is too large (G2). The clock is asked once, before the store is read, and not at all where the
-/// project's files open nothing. It changes neither the files nor what the store holds. (lookd)
+/// limit (L6), or a build that is too large (G2). Data files that are not to be read are as if they were not there. The clock is
+/// asked once, before the store is read, and not at all where the project's files open nothing. It changes neither the files nor
+/// what the store holds. (lookd)
 #[tactic(auto, using(crate::proofs::MomentLaws::next_is, crate::proofs::MomentLaws::unopened_next, crate::proofs::OpenedLaws::line_opens))]
 pub fn open_office<F: Files, K: Keeper, C: Clock>(
     alloc: Global,
+    reads: DataFiles,
     files: &mut F,
     keeper: K,
     clock: &mut C,
 ) -> Result<Opened<K>, Unserved<K>>
     ensures opened { IfSome (F.told files.old) (λ told. IfOk result (λ opened.
-        IsOpened told (Begins (K.held keeper) (K.handed keeper)) opened.now (Ok (standing_in opened.office)))) }
+        IsOpenedBy reads told (Begins (K.held keeper) (K.handed keeper)) opened.now (Ok (standing_in opened.office)))) }
     ensures next { IfOk result (λ opened. IfSome (next_moment (C.moments clock.old)) (λ told. opened.now ≡ told)) }
     ensures years { IfOk result (λ opened. IsMomentInYears opened.now) }
     ensures unopened { IfSome (F.told files.old) (λ told. IfErr result (λ unserved.
-        IsWhy (λ reply. IsOpenedNext told (Begins (K.held keeper) (K.handed keeper)) (next_moment (C.moments clock.old)) (Err reply)) unserved.why)) }
-    ensures project { IfSome (F.told files.old) (λ told. IfErr result (λ unserved. unserved.why ≡ Why.Store → HasProject told)) }
+        IsWhy (λ reply. IsOpenedNextBy reads told (Begins (K.held keeper) (K.handed keeper)) (next_moment (C.moments clock.old)) (Err reply)) unserved.why)) }
+    ensures project { IfSome (F.told files.old) (λ told. IfErr result (λ unserved. unserved.why ≡ Why.Store → HasProjectBy reads told)) }
     ensures faulty { IfErr result (λ unserved. IsFaulty unserved.why) }
     ensures stands { IfOk result (λ opened. Stands (standing_in opened.office) []) }
     ensures kept_ok { IfOk result (λ opened. K.held (keeper_in opened.office) ≡ K.held keeper) }
@@ -106,7 +119,7 @@ pub fn open_office<F: Files, K: Keeper, C: Clock>(
     ensures later { F.faults files.old ≤ F.faults files.new }
     ensures same { F.told files.new ≡ F.told files.old }
 {
-    match read_project(alloc, files) {
+    match read_project(alloc, reads, files) {
         Ok(opening) => {
             let now = clock.now();
             open_over(alloc, opening, keeper, now)
@@ -243,9 +256,9 @@ fn printed(alloc: Global, key: Value) -> Result<Text, NoMemory>
 }
 
 // The project of the files.
-fn read_project<F: Files>(alloc: Global, files: &mut F) -> Result<Opening, Why>
-    ensures project { IfSome (F.told files.old) (λ told. IfOk result (λ opening. IsProject told opening.loaded opening.seeds.items)) }
-    ensures line { IfSome (F.told files.old) (λ told. IfErr result (IsWhy (IsLine told))) }
+fn read_project<F: Files>(alloc: Global, reads: DataFiles, files: &mut F) -> Result<Opening, Why>
+    ensures project { IfSome (F.told files.old) (λ told. IfOk result (λ opening. IsProjectBy reads told opening.loaded opening.seeds.items)) }
+    ensures line { IfSome (F.told files.old) (λ told. IfErr result (IsWhy (IsLineBy reads told))) }
     ensures faulty { IfErr result IsFaulty }
     ensures resolved { IfOk result (λ opening. IsResolved opening.loaded.model) }
     ensures seeds { IfOk result (λ opening. AreSeeds opening.loaded.model.schema.tables opening.seeds.items) }
@@ -255,7 +268,7 @@ fn read_project<F: Files>(alloc: Global, files: &mut F) -> Result<Opening, Why>
     ensures same { F.told files.new ≡ F.told files.old }
 {
     match load(alloc, files) {
-        Ok(loaded) => read_batches(alloc, files, loaded),
+        Ok(loaded) => opening_of(alloc, reads, files, loaded),
         Err(fault) => Err(project_not(alloc, fault)),
     }
 }
@@ -275,12 +288,39 @@ fn project_not(alloc: Global, fault: ProjectFault) -> Why
     }
 }
 
+// A project with the batches of its data files, where these are to be read.
+fn opening_of<F: Files>(
+    alloc: Global,
+    reads: DataFiles,
+    files: &mut F,
+    loaded: Loaded,
+) -> Result<Opening, Why>
+    ensures loaded { IfOk result (λ opening. opening.loaded ≡ loaded) }
+    ensures batches { IfSome (F.told files.old) (λ told. IfOk result (λ opening. (found : List Seed)
+        × (Ok found ≡ batches_of reads loaded.model.schema.tables told) × (opening.seeds.items ≡ numbered 0 found))) }
+    ensures line { IfSome (F.told files.old) (λ told. IfErr result (IsWhy (IsUnservedBy reads told (Ok loaded)))) }
+    ensures faulty { IfErr result IsFaulty }
+    ensures seeds { IfOk result (λ opening. AreSeeds loaded.model.schema.tables opening.seeds.items) }
+    ensures later { F.faults files.old ≤ F.faults files.new }
+    ensures cause { IfErr result (λ why. why ≡ Why.Files → Rose (F.faults files.old) (F.faults files.new)) }
+    ensures never { IfErr result (λ why. why ≡ Why.Store → ⊥) }
+    ensures same { F.told files.new ≡ F.told files.old }
+{
+    match reads {
+        DataFiles::Read => read_batches(alloc, files, loaded),
+        DataFiles::Unread => Ok(Opening {
+            loaded,
+            seeds: Vec::new(alloc),
+        }),
+    }
+}
+
 // The batches of a project's data files.
 fn read_batches<F: Files>(alloc: Global, files: &mut F, loaded: Loaded) -> Result<Opening, Why>
     ensures loaded { IfOk result (λ opening. opening.loaded ≡ loaded) }
     ensures batches { IfSome (F.told files.old) (λ told. IfOk result (λ opening. (found : List Seed)
         × (Ok found ≡ seeds_of loaded.model.schema.tables told) × (opening.seeds.items ≡ numbered 0 found))) }
-    ensures line { IfSome (F.told files.old) (λ told. IfErr result (IsWhy (IsUnserved told (Ok loaded)))) }
+    ensures line { IfSome (F.told files.old) (λ told. IfErr result (IsWhy (IsUnservedBy DataFiles.Read told (Ok loaded)))) }
     ensures faulty { IfErr result IsFaulty }
     ensures seeds { IfOk result (λ opening. AreSeeds loaded.model.schema.tables opening.seeds.items) }
     ensures later { F.faults files.old ≤ F.faults files.new }

@@ -17,7 +17,7 @@ ghost use Rattle.lk_serve.specs.declared.replies.Status.{Status};
 ghost use Rattle.lk_serve.specs.declared.stops.Stop.{Stop};
 
 use crate::body::read_body;
-use crate::opening::{Opened, Unserved, Why, open_office};
+use crate::opening::{DataFiles, Opened, Unserved, Why, open_office};
 use crate::replies::{Reply, answered, long, refused};
 use crate::stops::Stop;
 use lk_answer::{Scratch, answers_are_of_one_snapshot, ask};
@@ -67,7 +67,7 @@ pub fn query<F: Files, K: Keeper, I: Source, C: Clock>(
     ensures clock { IsAskedOnce (C.moments clock.old) (C.moments clock.new) }
     ensures same { F.told files.new ≡ F.told files.old }
 {
-    match open_office(alloc, files, keeper, clock) {
+    match open_office(alloc, DataFiles::Read, files, keeper, clock) {
         Ok(Opened { office, now }) => over_office(alloc, office, user, explore, input, now),
         Err(Unserved { why, keeper }) => match why {
             Why::Told(line) => Replied {

@@ -13,7 +13,7 @@ ghost use Rattle.lk_serve.specs.Tellings.{IsTelling};
 ghost use Rattle.lk_serve.specs.declared.opening.Why.{Why};
 
 use crate::console::Console;
-use crate::opening::{Opened, Unserved, Why, open_office};
+use crate::opening::{DataFiles, Opened, Unserved, Why, open_office};
 use crate::serve::write;
 use lk_edition::Office;
 use lk_io::{Clock, Files, Sink, Source};
@@ -21,9 +21,9 @@ use lk_ledger::Keeper;
 use lk_session::{Ended, session};
 use std::alloc::Global;
 
-/// How a run ended: the status of the process, and the store, handed back.
+/// How a run that has no door ended: the status of the process, and the store, handed back.
 #[derive(Drop)]
-pub struct Ran<K> {
+pub(crate) struct Closed<K> {
     pub status: u8,
     pub keeper: K,
 }
@@ -72,7 +72,7 @@ fn serve<K: Keeper, I: Source, O: Sink, C: Clock>(
     input: &mut I,
     out: &mut O,
     clock: &mut C,
-) -> Ran<K>
+) -> Closed<K>
     requires { Stands (standing_in office) [] }
     ensures served { HasEnded (standing_in office)
         (outside (K.held (keeper_in office)) (K.faults (keeper_in office)) (I.left input.old) (O.held out.old) (C.moments clock.old))
@@ -86,14 +86,14 @@ fn serve<K: Keeper, I: Source, O: Sink, C: Clock>(
 {
     let mut office = office;
     let ended = serve_requests(alloc, &mut office, input, out, clock);
-    Ran {
+    Closed {
         status: code_of(ended),
         keeper: office.close(),
     }
 }
 
 // Writes why a server did not open, where there is a line on it, and gives the status of the process.
-fn tell<O: Sink>(why: Why, out: &mut O) -> u8
+pub(crate) fn tell<O: Sink>(why: Why, out: &mut O) -> u8
     requires { IsFaulty why }
     ensures told { IsTelling (O.held out.old) (O.held out.new) why result }
     ensures write { result ≡ 4 → Rose (O.faults out.old) (O.faults out.new) }
@@ -121,7 +121,7 @@ pub(crate) fn script<F: Files, K: Keeper, I: Source, O: Sink, C: Clock>(
     input: &mut I,
     out: &mut O,
     clock: &mut C,
-) -> Ran<K>
+) -> Closed<K>
     ensures served { HasServed (F.told files.old) (Begins (K.held keeper) (K.handed keeper))
         (outside (K.held keeper) (K.faults keeper) (I.left input.old) (O.held out.old) (C.moments clock.old))
         (outside (K.held result.keeper) (K.faults result.keeper) (I.left input.new) (O.held out.new) (C.moments clock.new))
@@ -137,9 +137,9 @@ pub(crate) fn script<F: Files, K: Keeper, I: Source, O: Sink, C: Clock>(
     ensures later { F.faults files.old ≤ F.faults files.new }
     ensures same { F.told files.new ≡ F.told files.old }
 {
-    match open_office(alloc, files, keeper, clock) {
+    match open_office(alloc, DataFiles::Read, files, keeper, clock) {
         Ok(Opened { office, now: _ }) => serve(alloc, office, input, out, clock),
-        Err(Unserved { why, keeper }) => Ran {
+        Err(Unserved { why, keeper }) => Closed {
             status: tell(why, out),
             keeper,
         },

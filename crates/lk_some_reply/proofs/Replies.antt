@@ -1,5 +1,6 @@
 -- Words over a folder's files, a store, an input and a clock have a reply, as far as these are told.
-use Rattle.std.proofs.Common.{◌≡◌, ℕ, ℤ, true, false, List, [], Option, Some, None, IfSome, Result, Ok, Err, refl, true≢false}
+use Rattle.std.proofs.Common.{◌≡◌, ℕ, ℤ, true, false, List, [], Option, Some, None, IfSome, Result, Ok, Err, refl}
+use Rattle.std.proofs.lemmas.Bool.{false≢true}
 use Rattle.std.specs.Prelude.{pos}
 use Rattle.lk_val.specs.Years.{IsMomentInYears}
 use Rattle.lk_io.specs.declared.files.File.{File}
@@ -17,7 +18,7 @@ use Rattle.lk_serve.specs.Opened.{IsOpened}
 use Rattle.lk_serve.specs.Outcomes.{IsReply, IsReplyTo}
 use Rattle.lk_serve.specs.Queries.{IsAnswered, IsQueried, OverBody, OverEdition, OverOpened, TellsAnswer, small_input}
 use Rattle.lk_serve.specs.Replies.{ComesUnread, fault_reply, long_reply, ok_reply, printed_answer, refused_reply, usage_reply}
-use Rattle.lk_serve.specs.Words.{Asked, asked_by, check, is_script, query, script, unknown}
+use Rattle.lk_serve.specs.Words.{Asked, asked_by, check, is_one, query, script, serve, unknown}
 use Rattle.lk_serve.specs.declared.replies.Reply.{Reply}
 use Rattle.lk_complete_laws.specs.Bodies.{IsBodyRead}
 use Rattle.lk_complete_laws.specs.Holding.{HoldsOfSome}
@@ -110,16 +111,17 @@ module _ (body_read : (m : Model) (users : Users) (user explore body : List ℕ)
 module _ (begins : Kept → Type 0) (some_load : (files : List File) → HoldsOfSome (IsLoadTold files))
     (some_opened : (files : List File) (now : ℤ) → HoldsOfSome (IsOpened files begins now))
     (body_read : (m : Model) (users : Users) (user explore body : List ℕ) (now : ℤ) → HoldsOfSome (IsBodyRead m users user explore body now)) where
-  by_asked : (asked : Asked) (files : Option (List File)) (input : Option (List ℕ)) (now : Option ℤ) → is_script asked ≡ false → IfSome now IsMomentInYears
+  by_asked : (asked : Asked) (files : Option (List File)) (input : Option (List ℕ)) (now : Option ℤ) → is_one asked ≡ true → IfSome now IsMomentInYears
       → HoldsOfSome (IsReplyTo asked files begins input now)
   by_asked unknown files input now plain h = of_this {Holds = IsReplyTo unknown files begins input now} usage_reply refl
   by_asked check None input now plain h = of_this {Holds = IsReplyTo check None begins input now} ok_reply tt
   by_asked check (Some files) input now plain h = some_check files (some_load files)
   by_asked (query user explore) None input now plain h = of_this {Holds = IsReplyTo (query user explore) None begins input now} ok_reply tt
   by_asked (query user explore) (Some files) input now plain h = some_query body_read begins files (some_opened files) user explore input now h
-  by_asked script files input now plain h = absurd (true≢false plain)
+  by_asked script files input now plain h = absurd (false≢true plain)
+  by_asked (serve workers) files input now plain h = absurd (false≢true plain)
 
-  pub some_reply : (words : List (List ℕ)) (files : Option (List File)) (input : Option (List ℕ)) (now : Option ℤ) → is_script (asked_by words) ≡ false → IfSome now IsMomentInYears
+  pub some_reply : (words : List (List ℕ)) (files : Option (List File)) (input : Option (List ℕ)) (now : Option ℤ) → is_one (asked_by words) ≡ true → IfSome now IsMomentInYears
       → HoldsOfSome (IsReply words files begins input now)
   unfolding IsReply
   some_reply words files input now plain h = by_asked (asked_by words) files input now plain h

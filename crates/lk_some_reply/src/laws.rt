@@ -1,4 +1,4 @@
-ghost use Rattle.std.specs.Prelude.{◌≡◌, ℕ, ℤ, Bool, false, List, Option, IfSome};
+ghost use Rattle.std.specs.Prelude.{◌≡◌, ℕ, ℤ, Bool, true, List, Option, IfSome};
 ghost use Rattle.lk_val.specs.Years.{IsMomentInYears};
 ghost use Rattle.lk_io.specs.declared.files.File.{File};
 ghost use Rattle.lk_types.specs.declared.answer.Reply.{Reply};
@@ -15,7 +15,7 @@ ghost use Rattle.lk_session.specs.Recorded.{Recorded, RecordedDoes};
 ghost use Rattle.lk_session.specs.Servers.{Server};
 ghost use Rattle.lk_serve.specs.Opened.{IsOpened};
 ghost use Rattle.lk_serve.specs.Outcomes.{IsReply};
-ghost use Rattle.lk_serve.specs.Words.{asked_by, is_script};
+ghost use Rattle.lk_serve.specs.Words.{asked_by, is_one};
 ghost use Rattle.lk_complete_laws.specs.Holding.{HoldsOfSome};
 ghost use Rattle.lk_some_reply.specs.Loads.{IsHanded, IsLoadTold};
 ghost use Rattle.lk_some_reply.specs.Requests.{HasMoment, IsServed};
@@ -65,7 +65,7 @@ pub fn files_open_as_something()
 /// next moment are told, whatever the store hands over. A moment that is told is of the years 1 to 9999. A law: it computes nothing.
 pub fn words_have_some_reply()
     ensures { (words : List (List ℕ)) (files : Option (List File)) (kept : Kept) (input : Option (List ℕ)) (now : Option ℤ)
-        → is_script (asked_by words) ≡ false → IfSome now IsMomentInYears → HoldsOfSome (IsReply words files (IsHanded kept) input now) }
+        → is_one (asked_by words) ≡ true → IfSome now IsMomentInYears → HoldsOfSome (IsReply words files (IsHanded kept) input now) }
 {
     files_load_as_something();
     files_open_as_something();

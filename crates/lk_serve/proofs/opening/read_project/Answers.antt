@@ -10,5 +10,5 @@ pub returns-in-Ok-clause-resolved : goal.returns-in-Ok-clause-resolved
 returns-in-Ok-clause-resolved g c =
     let read = c.in-Ok.ensures.read in
     let resolved = read_model_resolved read.project c.in-Ok.loaded read.are_read read.is_loaded in
-    IfOk-weaker c.read_batches.result (λ opening. opening.loaded ≡ c.in-Ok.loaded) (λ opening. IsResolved opening.loaded.model)
-    (λ opening is. subst (λ (loaded : Loaded). IsResolved loaded.model) (sym is) resolved) c.read_batches.ensures.loaded
+    IfOk-weaker c.opening_of.result (λ opening. opening.loaded ≡ c.in-Ok.loaded) (λ opening. IsResolved opening.loaded.model)
+    (λ opening is. subst (λ (loaded : Loaded). IsResolved loaded.model) (sym is) resolved) c.opening_of.ensures.loaded

@@ -4,6 +4,7 @@ use Rattle.lk_session.specs.Servers.{keeper_in}
 use Rattle.lk_serve.specs.Runs.{next_moment}
 use Rattle.lk_serve.specs.Scripts.{outside}
 use Rattle.lk_serve.proofs.MomentLaws.{opened_next}
+use Rattle.lk_serve.specs.declared.opening.DataFiles.TheVariants as data_files
 use Rattle.lk_serve.proofs.ScriptLaws.{not_opened, served}
 use Rattle.lk_serve.proofs.script.script.Goals as goal
 
@@ -12,7 +13,7 @@ returns-in-Ok-clause-served g c =
     let begins = Begins (g.K.Keeper.held c.args.keeper) (g.K.Keeper.handed c.args.keeper) in
     let files = g.F.Files.told c.args.files.now in
     let office = c.in-Ok.field-0.office in
-    let opened = opened_next begins _ (next_moment (g.C.Clock.moments c.args.clock.now)) (standing_in office) c.in-Ok.ensures.next files c.in-Ok.ensures.opened in
+    let opened = opened_next data_files.Read begins _ (next_moment (g.C.Clock.moments c.args.clock.now)) (standing_in office) c.in-Ok.ensures.next files c.in-Ok.ensures.opened in
     served files begins _
     (outside (g.K.Keeper.held (keeper_in office)) (g.K.Keeper.faults (keeper_in office)) (g.I.Source.left c.args.input.now) (g.O.Sink.held c.args.out.now) (g.C.Clock.moments c.open_office.new.clock))
     _ _ (standing_in office) c.in-Ok.ensures.stands opened
