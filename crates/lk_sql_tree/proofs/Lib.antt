@@ -1,0 +1,3 @@
+pub mod TreeLaws
+pub mod NodeLaws
+pub mod ClauseLaws

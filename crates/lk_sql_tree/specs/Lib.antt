@@ -1,0 +1,11 @@
+pub mod Trees
+pub mod SqlCode
+pub mod SqlNodes
+pub mod Texts
+pub mod SelectTexts
+pub mod Forms
+pub mod SelectForms
+pub mod Standings
+pub mod NodeTexts
+pub mod ClauseTexts
+pub mod Examples
