@@ -11,21 +11,24 @@ use lk_front::Shelves;
 use lk_io::{Clock, Link};
 use lk_listen::Gate;
 use lk_live::{Act, Worker, serve_link};
+use lk_turns::Ended;
 use std::sync::Wait;
 use std::thread::{Threads, for_each_mut};
 
-/// A connection, and the worker that serves it. (lookd)
+/// A connection, the worker that serves it, and how its session ended, once it was served. (lookd)
 #[derive(Drop)]
 pub struct Connection<'a, R, A: Act<J>, J: Shelves, C: Clock + Drop, G, L: Link + Drop> {
     pub worker: Worker<'a, R, A, J, C, G>,
     pub link: L,
+    pub ended: Ended,
 }
 
 /// Serves connections side by side, each by its worker and in a thread of its own where one can be had, until all have ended. There
-/// is one list of editions, of which the first opened the server and each other one is the one before it once more or that of a load
-/// or a check on it, such that what went out on each connection are the replies of a session along it: each belongs to a beginning of
-/// the list, none to a shorter one than the reply before it on its connection, and a load or check to one that ends in what it came
-/// to. So no reply mixes two snapshots, no connection goes back, and all see one history. It may wait as `serve_link` does. (lookd)
+/// is one list of editions, of which the first is one that a server can open with and each other one is the one before it once more or
+/// that of a load or a check on it, such that what went out on each connection are the replies of a session along it, which ended as
+/// the connection says then: each belongs to a beginning of the list, none to a shorter one than the reply before it on its
+/// connection, and a load or check to one that ends in what it came to. So no reply mixes two snapshots, no connection goes back, and
+/// all see one list. It may wait as `serve_link` does. (lookd)
 pub fn serve_links<
     R: Threads + Wait + Sync,
     A: Act<J> + Send,
@@ -40,7 +43,8 @@ pub fn serve_links<
         (live (slice_index_or connections.old place other).worker.desk (A.failed (slice_index_or connections.old place other).worker.act) (C.moments (slice_index_or connections.old place other).worker.clock))
         (L.left (slice_index_or connections.old place other).link) (L.held (slice_index_or connections.old place other).link)
         (live (slice_index_or connections.new place other).worker.desk (A.failed (slice_index_or connections.new place other).worker.act) (C.moments (slice_index_or connections.new place other).worker.clock))
-        (L.left (slice_index_or connections.new place other).link) (L.held (slice_index_or connections.new place other).link)) }
+        (L.left (slice_index_or connections.new place other).link) (L.held (slice_index_or connections.new place other).link)
+        (slice_index_or connections.new place other).ended) }
 {
     serve_each(rt, connections);
     share(connections);
@@ -61,7 +65,8 @@ fn serve_each<
         (live (slice_index_or connections.old place other).worker.desk (A.failed (slice_index_or connections.old place other).worker.act) (C.moments (slice_index_or connections.old place other).worker.clock))
         (L.left (slice_index_or connections.old place other).link) (L.held (slice_index_or connections.old place other).link)
         (live (slice_index_or connections.new place other).worker.desk (A.failed (slice_index_or connections.new place other).worker.act) (C.moments (slice_index_or connections.new place other).worker.clock))
-        (L.left (slice_index_or connections.new place other).link) (L.held (slice_index_or connections.new place other).link) }
+        (L.left (slice_index_or connections.new place other).link) (L.held (slice_index_or connections.new place other).link)
+        (slice_index_or connections.new place other).ended }
 {
     let count = connections.len();
     if count == 0 {
@@ -84,9 +89,10 @@ fn serve<R: Wait, A: Act<J>, J: Shelves, C: Clock + Drop, G: Gate, L: Link + Dro
         (live connection.old.worker.desk (A.failed connection.old.worker.act) (C.moments connection.old.worker.clock))
         (L.left connection.old.link) (L.held connection.old.link)
         (live connection.new.worker.desk (A.failed connection.new.worker.act) (C.moments connection.new.worker.clock))
-        (L.left connection.new.link) (L.held connection.new.link) }
+        (L.left connection.new.link) (L.held connection.new.link)
+        connection.new.ended }
 {
-    let _ = serve_link(&mut connection.worker, &mut connection.link);
+    connection.ended = serve_link(&mut connection.worker, &mut connection.link);
 }
 
 // What the desks of connections have seen begins one list of editions. It computes nothing that is kept.
