@@ -52,7 +52,7 @@ impl<D: Door> Door for Once<D> {
     }
 }
 
-/// The answer of `PROJECT WORKERS | REQUESTS`: the status, and what the connection was sent.
+/// The answer of `PROJECT WORKERS | REQUESTS`: the status, what the store holds then, and what the connection was sent.
 pub fn answer_loopback<R: Threads + Wait + Sync + AllocGlobal>(
     rt: &HostRuntime,
     threads: &R,
@@ -71,15 +71,15 @@ pub fn answer_loopback<R: Threads + Wait + Sync + AllocGlobal>(
     };
     let requests = bytes_of(alloc, requests)?;
     let (address, requests) = (address.as_str(), requests.as_slice());
-    let (sent, status) = thread::join(
+    let (sent, end) = thread::join(
         threads,
         move || ask(rt, address, requests),
         || run_over(threads, workers, &mut files, store, door),
     );
-    let (sent, status) = (sent?, status?);
+    let (sent, end) = (sent?, end?);
     let text = on_one_line(alloc, sent.as_slice())?;
-    let text = text.as_str();
-    Ok(Text::from_string(format!(in alloc; "{status}; {text}")?))
+    let (end, text) = (end.as_str(), text.as_str());
+    Ok(Text::from_string(format!(in alloc; "{end}; {text}")?))
 }
 
 // An address of this system at which nobody listens.

@@ -4,7 +4,7 @@ use crate::project::{batches, clock, folder, keeper};
 use crate::stream::{CaseLink, Telling, Waiting};
 use crate::text::{bytes_of, on_one_line};
 use lk_io::{FolderFiles, MemClock, MemSink, MemSource, Pair};
-use lk_ledger::MemKeeper;
+use lk_ledger::{Keeper, MemKeeper};
 use lk_listen::{Door, MemDoor};
 use lk_serve::run;
 use lk_val::{Bytes, Items, Text};
@@ -12,7 +12,8 @@ use std::alloc::Global;
 use std::sync::{Mutex, Wait};
 use std::thread::Threads;
 
-/// The answer of `PROJECT WORKERS COUNT | REQUESTS`: the status, and what each connection was sent, as often as it is the same.
+/// The answer of `PROJECT WORKERS COUNT | REQUESTS`: the status, what the store holds then, and what each
+/// connection was sent, as often as it is the same.
 pub fn answer_served<R: Threads + Wait + Sync + AllocGlobal>(
     rt: &HostRuntime,
     threads: &R,
@@ -33,8 +34,8 @@ pub fn answer_served<R: Threads + Wait + Sync + AllocGlobal>(
     let told = tellings(alloc, count)?;
     let links = links_of(threads, told.as_slice(), &bytes_of(alloc, requests)?)?;
     let door = MemDoor::new(links, Items::new(alloc));
-    let status = run_over(threads, workers, &mut files, keeper(alloc, chunks), door)?;
-    print_sent(alloc, status, told)
+    let end = run_over(threads, workers, &mut files, keeper(alloc, chunks), door)?;
+    print_sent(alloc, end, told)
 }
 
 /// Where so many connections tell what they are sent.
@@ -70,14 +71,14 @@ fn links_of<'a, R: Wait + Sync + AllocGlobal>(
     Ok(links)
 }
 
-/// The status of `serve` with so many workers over a project, a store and a door.
+/// The status of `serve` with so many workers over a project, a store and a door, and how much the store holds then.
 pub fn run_over<R: Threads + Wait + Sync + AllocGlobal, D: Door + Drop>(
     threads: &R,
     workers: &str,
     files: &mut FolderFiles<HostRuntime>,
     keeper: MemKeeper,
     door: D,
-) -> Result<u8, CaseFault> {
+) -> Result<Text, CaseFault> {
     let alloc = threads.alloc();
     let mut words = Items::new(alloc);
     for word in ["serve", "d", "127.0.0.1:0", workers] {
@@ -97,11 +98,20 @@ pub fn run_over<R: Threads + Wait + Sync + AllocGlobal, D: Door + Drop>(
         door,
         &mut clock,
     );
-    Ok(ran.status)
+    print_end(alloc, ran.status, ran.keeper)
 }
 
-// The status, and each thing that was sent with how many connections it was sent to.
-fn print_sent(alloc: Global, status: u8, told: Vec<Mutex<Vec<u8>>>) -> Result<Text, CaseFault> {
+// The status, and the number of a store with how many batches and loads it holds.
+fn print_end(alloc: Global, status: u8, mut keeper: MemKeeper) -> Result<Text, CaseFault> {
+    let kept = keeper.load_all(alloc).or(Err(CaseFault::NoProject))?;
+    let (number, batches, loads) = (kept.number, kept.chunks.len(), kept.ids.len());
+    Ok(Text::from_string(format!(in alloc;
+        "{status}; {number}: {batches} batches, {loads} loads"
+    )?))
+}
+
+// How the run ended, and each thing that was sent with how many connections it was sent to.
+fn print_sent(alloc: Global, end: Text, told: Vec<Mutex<Vec<u8>>>) -> Result<Text, CaseFault> {
     let mut sent: Vec<(Text, u64)> = Vec::new(alloc);
     for told in told {
         let text = on_one_line(alloc, told.into_inner().as_slice())?;
@@ -111,7 +121,8 @@ fn print_sent(alloc: Global, status: u8, told: Vec<Mutex<Vec<u8>>>) -> Result<Te
             None => sent.push((text, 1))?,
         }
     }
-    let mut answer = format!(in alloc; "{status}")?;
+    let end = end.as_str();
+    let mut answer = format!(in alloc; "{end}")?;
     for (text, count) in sent.iter() {
         let text = text.as_str();
         answer.push_str(format!(in alloc; "; {count} times {text}")?.as_str())?;
