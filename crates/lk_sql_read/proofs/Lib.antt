@@ -1,0 +1,10 @@
+pub mod WordLaws
+pub mod QuotingLaws
+pub mod NumberLaws
+pub mod ReadLaws
+pub mod StepLaws
+pub mod BuildLaws
+pub mod FitLaws
+pub mod ExpressionLaws
+pub mod DayLaws
+pub mod DateTokens
