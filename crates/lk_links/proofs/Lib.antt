@@ -1,1 +1,2 @@
+pub mod FailureLaws
 pub mod ShareLaws

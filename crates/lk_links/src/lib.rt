@@ -2,5 +2,7 @@
 #![tactic(auto)]
 
 mod connections;
+mod laws;
 
 pub use connections::{Connection, serve_links};
+pub use laws::unsaved_requests_are_counted;
