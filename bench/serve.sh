@@ -9,11 +9,13 @@
 #   tails     the 99th of a hundred replies of two connections, alone and beside a load and a rebuilding check each second
 #   memory    what the process holds after 1,000 replies and after 100,000
 #   restart   an opening over 1,000 batches of 16 KB, beside Python's reading of the store
-# The first four are tests, the others measurements. It runs the program that `./lookd` builds, and python3, curl, and Debian's
+# The first four are tests, the others measurements. It runs the program that
+# was built here, and else the packaged one, and python3, curl, and Debian's
 # nginx-light and wrk where they are installed.
 top=$(cd "$(dirname "$0")/.." && pwd) || exit 1
 [ -n "$LOOKD" ] || "$top/lookd" help >/dev/null
 program=${LOOKD:-$top/crates/lookd/out/lookd}
+[ -x "$program" ] || program=$top/dist/lookd-x86_64-linux
 [ $# -gt 0 ] || set -- clients faults signals kills rate tails memory restart
 for task in "$@"; do
     work=$(mktemp -d) || exit 1
